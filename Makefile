@@ -1,0 +1,20 @@
+# `make test` is the whole test command; `make demo` shows the main job on the sample image.
+KIT := $(shell cat KIT)
+
+.PHONY: test demo kit
+
+test: kit
+	@rt fmt --check
+	@rt ci
+
+# The program is proved before it is run; what the prover says is kept in target/demo.log.
+demo: kit
+	@mkdir -p target
+	@rt check show_blocks > target/demo.log 2>&1 || { tail -n 20 target/demo.log; exit 1; }
+	@target/bin/show_blocks < crates/show_blocks/stdin
+
+# Says so where another kit is found than the one that the project was proved with.
+kit:
+	@found="$$(rt version 2>/dev/null)"; \
+	if [ -z "$$found" ]; then echo "no Rattle kit: the command rt is not on the PATH"; exit 1; fi; \
+	if [ "$$found" != "$(KIT)" ]; then echo "another kit: proved with '$(KIT)', found '$$found'"; fi

@@ -1,0 +1,33 @@
+-- References and values read from the image by place (document 01, "References and values are read from the image by place").
+-- Assumes nothing: these are definitions.
+use Prim.Native.Nat.{ℕ, _+_, _-_, _*_}
+use mathlib.Core.Bool.{_&&_, cond}
+use mathlib.Core.List.{List}
+use lib.Dec.{leb, ltb}
+use lib.ListN as ListN
+use lib.Ieee.{binary64, ofBits}
+use Rattle.words.specs.Words.{word64}
+use Rattle.blocks.specs.declared.Block.{Block}
+use Rattle.blocks.specs.declared.Number.{Number}
+use Rattle.blocks.specs.declared.Number.the-variants.{Value, NoValue}
+use Rattle.common.specs.declared.refusal.Word.{Word}
+use Rattle.common.specs.declared.refusal.Word.the-variants.{Bits, NoWord}
+
+-- the i-th of count words from a first place on, eight bytes each: none past the count, none past the image end
+unfoldable pub wordIn : List ℕ → ℕ → ℕ → ℕ → Word
+wordIn img first count i =
+    cond (ltb i count && leb (first + 8 * i + 8) (ListN.length img)) (Bits (word64 img (first + 8 * i))) NoWord
+
+unfoldable pub referenceOf : List ℕ → Block → ℕ → Word
+referenceOf img b i = wordIn img (b .firstref) (b .links - 4) i
+
+unfoldable pub valueWordOf : List ℕ → Block → ℕ → Word
+valueWordOf img b i = wordIn img (b .firstval) (b .valcount) i
+
+-- the f64 of a word
+abbrev pub numbered : Word → Number
+numbered (Bits w) = Value (ofBits binary64 w)
+numbered NoWord = NoValue
+
+unfoldable pub valueOf : List ℕ → Block → ℕ → Number
+valueOf img b i = numbered (valueWordOf img b i)

@@ -1,0 +1,348 @@
+// The record of a ##CC block: read from an image, and its references and values read by place. Carries over the parsing half of base.rs.
+//
+// Nothing is copied: the record says where the references and the values stand, and the image is read again.
+use common::header::Header;
+use common::refusal::Refusal;
+use common::refusal::Word;
+use words::Cursor;
+ghost use mathlib.Core.Path.{_≡_};
+ghost use Prim.Native.Nat.{_+_, _-_, _*_, _≤_, _<_, _^_};
+ghost use lib.ListN as ListN;
+ghost use Rattle.common.specs.Header.{headerAt};
+ghost use Rattle.blocks.specs.Block.{fixedAt, fieldsAt, rangeAt, rangeSize, hasRange, fieldsPlace, blockEnd, blockAt, opened, parsed};
+ghost use Rattle.blocks.specs.Make.{emptyOf, withLinks, withDetails, withRange};
+ghost use Rattle.blocks.specs.Place.{wordIn, referenceOf, valueWordOf, valueOf};
+
+pub struct Block {
+    // As the header has them.
+    pub length: u64,
+    pub links: u64,
+    // The four fixed links; 0 is NIL.
+    pub name: u64,
+    pub unit: u64,
+    pub comment: u64,
+    pub inverse: u64,
+    pub kind: u8,
+    pub precision: u8,
+    pub flags: u16,
+    // The stored reference count, which sets no reading.
+    pub refcount: u16,
+    pub valcount: u16,
+    // The range is there whole or not at all. The words are the 64 bits behind the two floats, which a NaN does not tell.
+    pub ranged: bool,
+    pub minimum: f64,
+    pub maximum: f64,
+    pub minword: u64,
+    pub maxword: u64,
+    // The places of the first reference and of the first value.
+    pub firstref: u64,
+    pub firstval: u64,
+}
+
+pub enum Parsed {
+    Whole(Block),
+    Refused(Refusal),
+}
+
+// A value, where there is one.
+pub enum Number {
+    Value(f64),
+    NoValue,
+}
+
+// The four fixed links.
+pub struct Fixed {
+    pub name: u64,
+    pub unit: u64,
+    pub comment: u64,
+    pub inverse: u64,
+}
+
+// The eight bytes behind the references.
+pub struct Fields {
+    pub kind: u8,
+    pub precision: u8,
+    pub flags: u16,
+    pub refcount: u16,
+    pub valcount: u16,
+}
+
+pub struct Range {
+    pub ranged: bool,
+    pub minimum: f64,
+    pub maximum: f64,
+    pub minword: u64,
+    pub maxword: u64,
+}
+
+fn fixed_at(image: &[u8], at: usize) -> Fixed
+    requires { ⌜ at + 32 ≤ ListN.length (now image) ⌝ }
+    ensures { λ r. ⌜ r ≡ fixedAt (now (image .entry)) at ⌝ }
+{
+    let name = Cursor::new(at).read_link(image);
+    let unit = name.next.read_link(image);
+    let comment = unit.next.read_link(image);
+    let inverse = comment.next.read_link(image);
+    Fixed {
+        name: name.value,
+        unit: unit.value,
+        comment: comment.value,
+        inverse: inverse.value,
+    }
+}
+
+fn fields_at(image: &[u8], at: usize) -> Fields
+    requires { ⌜ at + 8 ≤ ListN.length (now image) ⌝ }
+    ensures { λ r. ⌜ r ≡ fieldsAt (now (image .entry)) at ⌝ }
+{
+    let kind = Cursor::new(at).read_u8(image);
+    let precision = kind.next.read_u8(image);
+    let flags = precision.next.read_u16(image);
+    let refcount = flags.next.read_u16(image);
+    let valcount = refcount.next.read_u16(image);
+    Fields {
+        kind: kind.value,
+        precision: precision.value,
+        flags: flags.value,
+        refcount: refcount.value,
+        valcount: valcount.value,
+    }
+}
+
+fn range_at(image: &[u8], at: usize, ranged: bool) -> Range
+    requires { ⌜ at + rangeSize ranged ≤ ListN.length (now image) ⌝ }
+    ensures { λ r. ⌜ r ≡ rangeAt (now (image .entry)) at ranged ⌝ }
+{
+    if ranged {
+        let minimum = Cursor::new(at).read_f64(image);
+        let maximum = minimum.next.read_f64(image);
+        Range {
+            ranged: true,
+            minimum: minimum.value,
+            maximum: maximum.value,
+            minword: minimum.word,
+            maxword: maximum.word,
+        }
+    } else {
+        Range {
+            ranged: false,
+            minimum: 0.0,
+            maximum: 0.0,
+            minword: 0,
+            maxword: 0,
+        }
+    }
+}
+
+pub fn range_size(ranged: bool) -> usize
+    ensures { λ r. ⌜ (r ≡ rangeSize ranged) × (r ≤ 16) ⌝ }
+{
+    if ranged { 16 } else { 0 }
+}
+
+// The range is there by the block length, links as written in the header; the flags play no part.
+fn has_range(head: Header, fields: Fields) -> bool
+    requires { ⌜ head .links < 2 ^ 60 ⌝ }
+    ensures { λ r. ⌜ r ≡ hasRange (head .length) (head .links) (fields .valcount) ⌝ }
+{
+    24 + 8 * head.links + 8 + 8 * (fields.valcount as u64) + 16 <= head.length
+}
+
+// The references past the four fixed links; none where the count is below 4.
+fn less_fixed(links: u64) -> u64
+    ensures { λ r. ⌜ r ≡ links - 4 ⌝ }
+{
+    if links < Block::FIXED {
+        0
+    } else {
+        links - Block::FIXED
+    }
+}
+
+// The word at the i-th of `count` places, eight bytes each, from `first` on, where that place is there and lies in the image.
+fn word_in(image: &[u8], first: u64, count: u64, i: u64) -> Word
+    ensures { λ r. ⌜ r ≡ wordIn (now (image .entry)) first count i ⌝ }
+{
+    let end = image.len() as u64;
+    if i < count {
+        if first <= end {
+            if i < (end - first) / 8 {
+                return Word::Bits(words::u64_at(image, (first + 8 * i) as usize));
+            }
+        }
+    }
+    Word::NoWord
+}
+
+impl Block {
+    pub const HEADER: usize = 24;
+    // The fixed links: name, unit, comment, inverse.
+    pub const FIXED: u64 = 4;
+    // The deepest block that is walked, with the root at depth 0.
+    pub const DEPTH: u32 = 20;
+
+    // A block of a type with nothing in it: no text, no reference, no value, no range.
+    pub fn new(kind: u8) -> Block
+        ensures { λ r. ⌜ r ≡ emptyOf kind ⌝ }
+    {
+        Block {
+            length: 64,
+            links: Block::FIXED,
+            name: 0,
+            unit: 0,
+            comment: 0,
+            inverse: 0,
+            kind,
+            precision: 0,
+            flags: 0,
+            refcount: 0,
+            valcount: 0,
+            ranged: false,
+            minimum: 0.0,
+            maximum: 0.0,
+            minword: 0,
+            maxword: 0,
+            firstref: 56,
+            firstval: 64,
+        }
+    }
+
+    // The block with these fixed links.
+    pub fn with_links(mut self, name: u64, unit: u64, comment: u64, inverse: u64) -> Block
+        ensures { λ r. ⌜ r ≡ withLinks self name unit comment inverse ⌝ }
+    {
+        self.name = name;
+        self.unit = unit;
+        self.comment = comment;
+        self.inverse = inverse;
+        self
+    }
+
+    // The block with these details.
+    pub fn with_details(mut self, precision: u8, flags: u16, refcount: u16) -> Block
+        ensures { λ r. ⌜ r ≡ withDetails self precision flags refcount ⌝ }
+    {
+        self.precision = precision;
+        self.flags = flags;
+        self.refcount = refcount;
+        self
+    }
+
+    // The block with a range.
+    pub fn with_range(mut self, minimum: f64, maximum: f64) -> Block
+        ensures { λ r. ⌜ r ≡ withRange self minimum maximum ⌝ }
+    {
+        self.ranged = true;
+        self.minimum = minimum;
+        self.maximum = maximum;
+        self.minword = floats::to_bits(minimum);
+        self.maxword = floats::to_bits(maximum);
+        self
+    }
+
+    // The record, once it is known that the whole block lies in the image.
+    fn assembled(
+        image: &[u8],
+        at: usize,
+        head: Header,
+        place: usize,
+        fields: Fields,
+        ranged: bool,
+    ) -> Block
+        requires { ⌜ head ≡ headerAt (now image) at ⌝ }
+        requires { ⌜ place ≡ fieldsPlace (now image) at ⌝ }
+        requires { ⌜ fields ≡ fieldsAt (now image) place ⌝ }
+        requires { ⌜ ranged ≡ hasRange (head .length) (head .links) (fields .valcount) ⌝ }
+        requires { ⌜ place + 8 + rangeSize ranged ≤ ListN.length (now image) ⌝ }
+        ensures { λ r. ⌜ r ≡ blockAt (now (image .entry)) at ⌝ }
+    {
+        let fixed = fixed_at(image, at + Block::HEADER);
+        let range = range_at(image, place + 8, ranged);
+        let size = range_size(ranged);
+        Block {
+            length: head.length,
+            links: head.links,
+            name: fixed.name,
+            unit: fixed.unit,
+            comment: fixed.comment,
+            inverse: fixed.inverse,
+            kind: fields.kind,
+            precision: fields.precision,
+            flags: fields.flags,
+            refcount: fields.refcount,
+            valcount: fields.valcount,
+            ranged: range.ranged,
+            minimum: range.minimum,
+            maximum: range.maximum,
+            minword: range.minword,
+            maxword: range.maxword,
+            firstref: (at + 56) as u64,
+            firstval: (place + 8 + size) as u64,
+        }
+    }
+
+    // The block at `at`, whose header lies in the image and has the id ##CC: whole, or Short.
+    pub fn read(image: &[u8], at: usize) -> Parsed
+        requires { ⌜ at + 24 ≤ ListN.length (now image) ⌝ }
+        ensures { λ r. ⌜ r ≡ opened (now (image .entry)) at ⌝ }
+    {
+        let head = Header::read(image, at);
+        let refs = less_fixed(head.links);
+        let room = image.len() - at;
+        if room < 64 {
+            return Parsed::Refused(Refusal::Short(at as u64));
+        }
+        if (((room - 64) / 8) as u64) < refs {
+            return Parsed::Refused(Refusal::Short(at as u64));
+        }
+        let place = at + 56 + 8 * (refs as usize);
+        let fields = fields_at(image, place);
+        let ranged = has_range(head, fields);
+        let size = range_size(ranged);
+        if place + 8 + size + 8 * (fields.valcount as usize) <= image.len() {
+            Parsed::Whole(Block::assembled(image, at, head, place, fields, ranged))
+        } else {
+            Parsed::Refused(Refusal::Short(at as u64))
+        }
+    }
+
+    // The block at an address of an image.
+    pub fn parse(image: &[u8], address: u64) -> Parsed
+        ensures { λ r. ⌜ r ≡ parsed (now (image .entry)) address ⌝ }
+    {
+        if Header::is_inside(image, address) {
+            let at = address as usize;
+            if Header::is_conversion(image, at) {
+                Block::read(image, at)
+            } else {
+                Parsed::Refused(Refusal::NotConversion(address))
+            }
+        } else {
+            Parsed::Refused(Refusal::Outside(address))
+        }
+    }
+
+    // The i-th reference.
+    pub fn reference(self, image: &[u8], i: u64) -> Word
+        ensures { λ r. ⌜ r ≡ referenceOf (now (image .entry)) self i ⌝ }
+    {
+        word_in(image, self.firstref, less_fixed(self.links), i)
+    }
+
+    // The i-th value's 64 bits.
+    pub fn value_word(self, image: &[u8], i: u64) -> Word
+        ensures { λ r. ⌜ r ≡ valueWordOf (now (image .entry)) self i ⌝ }
+    {
+        word_in(image, self.firstval, self.valcount as u64, i)
+    }
+
+    // The i-th value.
+    pub fn value(self, image: &[u8], i: u64) -> Number
+        ensures { λ r. ⌜ r ≡ valueOf (now (image .entry)) self i ⌝ }
+    {
+        match self.value_word(image, i) {
+            Word::Bits(w) => Number::Value(floats::from_bits(w)),
+            Word::NoWord => Number::NoValue,
+        }
+    }
+}

@@ -1,0 +1,83 @@
+-- `common::refusal::Refusal::address` meets its contract. Assumes nothing.
+use mathlib.Core.Path.{sym, ap}
+use Rattle.common.specs.Refusal.{addressOf}
+use borrow.Author.Needs.{needs}
+use Rattle.common.proofs.refusal.Refusal.address.Statement.{statement}
+use Rattle.common.proofs.refusal.Refusal.address.Tie as tie
+
+enum-known-self : tie.Need-enum-known-self
+enum-known-self c = search needs
+
+enum-known-self-2 : tie.Need-enum-known-self-2
+enum-known-self-2 c = search needs
+
+enum-known-self-3 : tie.Need-enum-known-self-3
+enum-known-self-3 c = search needs
+
+enum-known-self-4 : tie.Need-enum-known-self-4
+enum-known-self-4 c = search needs
+
+enum-known-self-5 : tie.Need-enum-known-self-5
+enum-known-self-5 c = search needs
+
+enum-known-self-6 : tie.Need-enum-known-self-6
+enum-known-self-6 c = search needs
+
+enum-told : tie.Need-enum-told
+enum-told c = search needs
+
+enum-told-2 : tie.Need-enum-told-2
+enum-told-2 c = search needs
+
+enum-told-3 : tie.Need-enum-told-3
+enum-told-3 c = search needs
+
+returns : tie.Need-returns
+returns c = ap addressOf (sym (c .before .self .given .1))
+
+returns-2 : tie.Need-returns-2
+returns-2 c = ap addressOf (sym (c .before .self2 .given .1))
+
+returns-3 : tie.Need-returns-3
+returns-3 c = ap addressOf (sym (c .before .self3 .given .1))
+
+returns-4 : tie.Need-returns-4
+returns-4 c = ap addressOf (sym (c .before .self4 .given .1))
+
+returns-5 : tie.Need-returns-5
+returns-5 c = ap addressOf (sym (c .before .self5 .given .1))
+
+returns-6 : tie.Need-returns-6
+returns-6 c = ap addressOf (sym (c .before .self6 .given .1))
+
+returns-7 : tie.Need-returns-7
+returns-7 c = search needs
+
+returns-8 : tie.Need-returns-8
+returns-8 c = search needs
+
+returns-9 : tie.Need-returns-9
+returns-9 c = search needs
+
+pub address-spec : {M : Type 1} → statement M
+address-spec =
+    tie.close
+    (tie.spec
+    enum-known-self
+    enum-known-self-2
+    enum-known-self-3
+    enum-known-self-4
+    enum-known-self-5
+    enum-known-self-6
+    enum-told
+    enum-told-2
+    enum-told-3
+    returns
+    returns-2
+    returns-3
+    returns-4
+    returns-5
+    returns-6
+    returns-7
+    returns-8
+    returns-9)

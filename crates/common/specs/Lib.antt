@@ -1,0 +1,4 @@
+pub mod Types
+pub mod Refusal
+pub mod Header
+pub mod Text

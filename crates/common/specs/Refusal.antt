@@ -1,0 +1,29 @@
+-- The number and the address of each refusal (document 01, "What a call can say"). Assumes nothing: these are definitions.
+use Prim.Native.Nat.{ℕ}
+use Rattle.common.specs.declared.refusal.Refusal.{Refusal}
+use Rattle.common.specs.declared.refusal.Refusal.the-variants.{Outside, NotConversion, Limit, Short, Deep, Loop, Formula, Room, Count}
+use Rattle.common.specs.declared.refusal.Word.{Word}
+use Rattle.common.specs.declared.refusal.Word.the-variants.{Bits, NoWord}
+
+abbrev pub numberOf : Refusal → ℕ
+numberOf (Outside a) = 1
+numberOf (NotConversion a) = 2
+numberOf (Limit a) = 3
+numberOf (Short a) = 4
+numberOf (Deep a) = 5
+numberOf (Loop a) = 6
+numberOf Formula = 7
+numberOf Room = 8
+numberOf Count = 9
+
+-- 1 to 6 also the block or link address
+abbrev pub addressOf : Refusal → Word
+addressOf (Outside a) = Bits a
+addressOf (NotConversion a) = Bits a
+addressOf (Limit a) = Bits a
+addressOf (Short a) = Bits a
+addressOf (Deep a) = Bits a
+addressOf (Loop a) = Bits a
+addressOf Formula = NoWord
+addressOf Room = NoWord
+addressOf Count = NoWord

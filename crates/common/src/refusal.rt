@@ -1,0 +1,58 @@
+// Why a call is refused. Stands for the parts of error.rs that a conversion can meet; the numbers are document 01's.
+ghost use mathlib.Core.Path.{_≡_};
+ghost use Rattle.common.specs.Refusal.{numberOf, addressOf};
+
+// 1 to 6 carry the address of the block or the link.
+pub enum Refusal {
+    Outside(u64),
+    NotConversion(u64),
+    Limit(u64),
+    Short(u64),
+    Deep(u64),
+    Loop(u64),
+    Formula,
+    Room,
+    Count,
+}
+
+// A number of 64 bits, where there is one.
+pub enum Word {
+    Bits(u64),
+    NoWord,
+}
+
+impl Refusal {
+    // Document 01's number.
+    pub fn number(self) -> u8
+        ensures { λ r. ⌜ r ≡ numberOf self ⌝ }
+    {
+        match self {
+            Refusal::Outside(_) => 1,
+            Refusal::NotConversion(_) => 2,
+            Refusal::Limit(_) => 3,
+            Refusal::Short(_) => 4,
+            Refusal::Deep(_) => 5,
+            Refusal::Loop(_) => 6,
+            Refusal::Formula => 7,
+            Refusal::Room => 8,
+            Refusal::Count => 9,
+        }
+    }
+
+    // The address that it carries, if it carries one.
+    pub fn address(self) -> Word
+        ensures { λ r. ⌜ r ≡ addressOf self ⌝ }
+    {
+        match self {
+            Refusal::Outside(a) => Word::Bits(a),
+            Refusal::NotConversion(a) => Word::Bits(a),
+            Refusal::Limit(a) => Word::Bits(a),
+            Refusal::Short(a) => Word::Bits(a),
+            Refusal::Deep(a) => Word::Bits(a),
+            Refusal::Loop(a) => Word::Bits(a),
+            Refusal::Formula => Word::NoWord,
+            Refusal::Room => Word::NoWord,
+            Refusal::Count => Word::NoWord,
+        }
+    }
+}

@@ -1,0 +1,3 @@
+pub mod Nan
+pub mod Kept
+pub mod Signed

@@ -1,0 +1,43 @@
+-- `words::put_u32` meets its contract. Assumes nothing.
+use borrow.Author.Needs.{needs}
+use Prim.Native.Nat.{_%_, _/_}
+use denote.Ref.{now}
+use Rattle.words.specs.Words.{bytes2}
+use Rattle.words.proofs.Laws.{put-append}
+use Rattle.words.proofs.put_u32.Statement.{statement}
+use Rattle.words.proofs.put_u32.Tie as tie
+
+cast-put-u16 : tie.Need-cast-put-u16
+cast-put-u16 c = search needs
+
+put-u16-requires : tie.Need-put-u16-requires
+put-u16-requires c κs = search needs
+
+add-put-u16 : tie.Need-add-put-u16
+add-put-u16 c = search needs
+
+cast-put-u16-2 : tie.Need-cast-put-u16-2
+cast-put-u16-2 c = search needs
+
+put-u16-requires-2 : tie.Need-put-u16-requires-2
+put-u16-requires-2 c κs = search needs
+
+same-length : tie.Need-same-length
+same-length c = search needs
+
+returns : tie.Need-returns
+returns c =
+    let a = c .before .before .before .before .before .before .before .before .before .args in
+    cc (put-append (bytes2 (a .v % 65536)) (bytes2 (a .v / 65536)) (now (a .out)) (a .at))
+
+pub put-u32-spec : {M : Type 1} → statement M
+put-u32-spec =
+    tie.close
+    (tie.spec
+    cast-put-u16
+    put-u16-requires
+    add-put-u16
+    cast-put-u16-2
+    put-u16-requires-2
+    same-length
+    returns)

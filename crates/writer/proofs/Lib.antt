@@ -1,0 +1,3 @@
+pub mod Writing
+pub mod ParseWritten
+pub mod WriteParsed

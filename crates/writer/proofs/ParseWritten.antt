@@ -1,0 +1,223 @@
+-- Document 01: "Parsing what was written returns every field, counts and block length as written", also with other bytes before and behind,
+-- and the references and values read by place are those written. Assumes nothing.
+use mathlib.Core.Path.{_≡_, refl, sym, ap, _∙_}
+use mathlib.Core.Bool.{Bool, true, false}
+use mathlib.Core.List.{List, [], _++_, append-assoc}
+use Prim.Native.Nat.{ℕ, _+_, _*_, _^_, _≤_, _<_}
+use native.Mathlib.Nat.{add-zero}
+use native.Mathlib.Omega.{arith}
+use borrow.Author.Tests.{le-leb, lt-leb, eq-eqb}
+use lib.ListN.{length, drop, length-append}
+use lib.Seq.{drop-drop, getD-drop, drop-append-seam}
+use Rattle.words.specs.Words.{word16, word32, word64, words, valueAt, links}
+use Rattle.words.proofs.Laws.{word16-bytes, word64-bytes, words-links, length-links, Words64}
+use Rattle.words.proofs.Slices.{word16-drop, word32-drop, word64-drop, words-drop}
+use Rattle.floats.proofs.Kept.{kept-reads-back, kept-small}
+use Rattle.floats.specs.Kept.{keptBits}
+use Rattle.common.specs.Header.{headerAt, inside, isConversion, conversionId}
+use Rattle.blocks.specs.Block.{fixedAt, refCount, fieldsPlace, fieldsAt, valCount, hasRange, isRanged, rangeSize, rangeAt, valuesPlace, blockEnd, blockAt, opened, parsed}
+use Rattle.blocks.specs.Make.{fixedOf}
+use Rattle.writer.specs.Write.{writeSize, headerBytes, fixedBytes, fieldBytes, rangeBytes, frontBytes, blockBytes, answerOf, outputOf, Outcome, wrote, writing}
+use Rattle.writer.specs.Stored.{storedFields, storedRange, stored, Sized}
+use Rattle.writer.proofs.Writing.{length-range, length-block, answer-fits}
+use Rattle.common.specs.declared.header.Header.{Header}
+use Rattle.blocks.specs.declared.Fields.{Fields}
+use Rattle.blocks.specs.declared.Block.{Block}
+use Rattle.blocks.specs.declared.Parsed.the-variants.{Whole}
+use Rattle.writer.specs.declared.Written.{Written}
+use Rattle.writer.specs.declared.Written.the-variants.{Bytes}
+
+-- ---- the parts of a block, read from what is left of the image from their place on
+header-drop : (s : List ℕ) (p : ℕ) → headerAt (drop p s) 0 ≡ headerAt s p
+unfolding headerAt
+header-drop s p = simp (word32-drop, word64-drop, add-zero)
+
+fixed-drop : (s : List ℕ) (p : ℕ) → fixedAt (drop p s) 0 ≡ fixedAt s p
+unfolding fixedAt
+fixed-drop s p = simp (word64-drop, add-zero)
+
+fields-drop : (s : List ℕ) (p : ℕ) → fieldsAt (drop p s) 0 ≡ fieldsAt s p
+unfolding fieldsAt
+fields-drop s p = simp (word16-drop, getD-drop, add-zero)
+
+range-drop : (s : List ℕ) (p : ℕ) (r : Bool) → rangeAt (drop p s) 0 r ≡ rangeAt s p r
+unfolding valueAt
+range-drop s p true = simp (word64-drop, add-zero)
+range-drop s p false = refl
+
+-- ---- and each reads as it was written; a number's law may leave out what follows it, which is not read
+header-bytes : (size count : ℕ) (rest : List ℕ) → size < 2 ^ 64 → count < 2 ^ 64
+    → headerAt (headerBytes size count ++ rest) 0 ≡ record { id = conversionId; reserved = 0; length = size; links = count }
+unfolding headerAt headerBytes word64 word32 word16
+header-bytes size count rest h k =
+    let first : word64 (headerBytes size count ++ rest) 8 ≡ size = word64-bytes size [] h in
+    let second : word64 (headerBytes size count ++ rest) 16 ≡ count = word64-bytes count [] k in
+    cc
+
+fixed-bytes : (b : Block) (rest : List ℕ) → Sized b → fixedAt (fixedBytes b ++ rest) 0 ≡ fixedOf b
+unfolding fixedAt fixedBytes word64 word32 word16
+fixed-bytes b rest h =
+    let all = fixedBytes b ++ rest in
+    let name : word64 all 0 ≡ b .name = word64-bytes (b .name) [] (h .name) in
+    let unit : word64 all 8 ≡ b .unit = word64-bytes (b .unit) [] (h .unit) in
+    let comment : word64 all 16 ≡ b .comment = word64-bytes (b .comment) [] (h .comment) in
+    let inverse : word64 all 24 ≡ b .inverse = word64-bytes (b .inverse) [] (h .inverse) in
+    cc
+
+fields-bytes : (b : Block) (values : ℕ) (rest : List ℕ) → Sized b → values < 65536 → fieldsAt (fieldBytes b values ++ rest) 0 ≡ storedFields b values
+unfolding fieldsAt fieldBytes word16
+fields-bytes b values rest h small =
+    let all = fieldBytes b values ++ rest in
+    let flags : word16 all 2 ≡ b .flags = word16-bytes (b .flags) [] (h .flags) in
+    let refcount : word16 all 4 ≡ b .refcount = word16-bytes (b .refcount) [] (h .refcount) in
+    let valcount : word16 all 6 ≡ values = word16-bytes values [] small in
+    cc
+
+range-bytes : (b : Block) (r : Bool) (rest : List ℕ) → Sized b → rangeAt (rangeBytes b r ++ rest) 0 r ≡ storedRange b r
+unfolding valueAt word64 word32 word16
+range-bytes b true rest h =
+    let all = rangeBytes b true ++ rest in
+    let low = keptBits (b .minimum) (b .minword) in
+    let high = keptBits (b .maximum) (b .maxword) in
+    let lows : word64 all 0 ≡ low = word64-bytes low [] (kept-small (b .minimum) (b .minword) (h .minimum) (h .minword)) in
+    let highs : word64 all 8 ≡ high = word64-bytes high [] (kept-small (b .maximum) (b .maxword) (h .maximum) (h .maxword)) in
+    cc (kept-reads-back (b .minimum) (b .minword) (h .minimum), kept-reads-back (b .maximum) (b .maxword) (h .maximum))
+range-bytes b false rest h = refl
+
+-- the range is found exactly where it was written
+range-found : (r : Bool) (refs values : ℕ) → hasRange (writeSize r refs values) (4 + refs) values ≡ r
+unfolding writeSize
+range-found true refs values = le-leb (24 + 8 * (4 + refs) + 8 + 8 * values + 16) (writeSize true refs values) (omega arith)
+range-found false refs values = lt-leb (24 + 8 * (4 + refs) + 8 + 8 * values + 16) (writeSize false refs values) (omega arith)
+
+-- what follows a part
+next : (s xs ys : List ℕ) (p q : ℕ) → drop p s ≡ xs ++ ys → p + length xs ≡ q → drop q s ≡ ys
+next s xs ys p q e f = cc (drop-drop (length xs) p s, drop-append-seam xs ys)
+
+-- numbers that were written at p
+listed : (s : List ℕ) (p : ℕ) (vs ys : List ℕ) → drop p s ≡ links vs ++ ys → Words64 vs → words s p (length vs) ≡ vs
+listed s p vs ys e h = cc (add-zero p, words-drop s p 0 (length vs), words-links vs ys h)
+
+module _ (front rest : List ℕ) (b : Block) (refs values : List ℕ) where
+  abbrev image : List ℕ
+  image = front ++ (blockBytes b refs values ++ rest)
+
+  abbrev a : ℕ
+  a = length front
+
+  abbrev n : ℕ
+  n = length refs
+
+  abbrev size : ℕ
+  size = writeSize (b .ranged) n (length values)
+
+  -- what is left of the image from each part on
+  abbrev fromValues : List ℕ
+  fromValues = links values ++ rest
+
+  abbrev fromRange : List ℕ
+  fromRange = rangeBytes b (b .ranged) ++ fromValues
+
+  abbrev fromFields : List ℕ
+  fromFields = fieldBytes b (length values) ++ fromRange
+
+  abbrev fromRefs : List ℕ
+  fromRefs = links refs ++ fromFields
+
+  abbrev fromFixed : List ℕ
+  fromFixed = fixedBytes b ++ fromRefs
+
+  at-header : drop a image ≡ headerBytes size (4 + n) ++ fromFixed
+  unfolding blockBytes frontBytes
+  at-header = drop-append-seam front (blockBytes b refs values ++ rest) ∙ simp append-assoc
+
+  at-fixed : drop (a + 24) image ≡ fromFixed
+  unfolding headerBytes
+  at-fixed = next image (headerBytes size (4 + n)) fromFixed a (a + 24) at-header refl
+
+  at-refs : drop (a + 56) image ≡ fromRefs
+  unfolding fixedBytes
+  at-refs = next image (fixedBytes b) fromRefs (a + 24) (a + 56) at-fixed (omega arith)
+
+  at-fields : drop (a + 56 + 8 * n) image ≡ fromFields
+  at-fields = next image (links refs) fromFields (a + 56) (a + 56 + 8 * n) at-refs (omega (arith, length-links refs))
+
+  at-range : drop (a + 64 + 8 * n) image ≡ fromRange
+  unfolding fieldBytes
+  at-range = next image (fieldBytes b (length values)) fromRange (a + 56 + 8 * n) (a + 64 + 8 * n) at-fields (omega arith)
+
+  at-values : drop (a + 64 + 8 * n + rangeSize (b .ranged)) image ≡ fromValues
+  at-values =
+      next image (rangeBytes b (b .ranged)) fromValues (a + 64 + 8 * n) (a + 64 + 8 * n + rangeSize (b .ranged)) at-range
+      (omega (arith, length-range b (b .ranged)))
+
+  pub references-written : Words64 refs → words (front ++ (blockBytes b refs values ++ rest)) (length front + 56) (length refs) ≡ refs
+  references-written = listed image (a + 56) refs fromFields at-refs
+
+  pub values-written : Words64 values
+      → words (front ++ (blockBytes b refs values ++ rest)) (stored (length front) b (length refs) (length values) .firstval) (length values) ≡ values
+  unfolding stored
+  values-written = listed image (a + 64 + 8 * n + rangeSize (b .ranged)) values rest at-values
+
+  -- what parsing reads, in the order in which one place follows from another
+  module _ (sized : Sized b) (few : length values ≤ 65535) (fits : writeSize (b .ranged) (length refs) (length values) < 2 ^ 64) where
+    header : headerAt image a ≡ record { id = conversionId; reserved = 0; length = size; links = 4 + n }
+    unfolding writeSize
+    header = cc (header-drop image a, at-header, header-bytes size (4 + n) fromFixed fits (omega arith))
+
+    fixed : fixedAt image (a + 24) ≡ fixedOf b
+    fixed = cc (fixed-drop image (a + 24), at-fixed, fixed-bytes b fromRefs sized)
+
+    long : word64 image (a + 8) ≡ size
+    unfolding headerAt
+    long = ap (λ (h : Header). h .length) header
+
+    linked : word64 image (a + 16) ≡ 4 + n
+    unfolding headerAt
+    linked = ap (λ (h : Header). h .links) header
+
+    place : fieldsPlace image a ≡ a + 56 + 8 * n
+    unfolding fieldsPlace refCount
+    place = omega (arith, linked)
+
+    fields : fieldsAt image (fieldsPlace image a) ≡ storedFields b (length values)
+    fields = cc (place, fields-drop image (a + 56 + 8 * n), at-fields, fields-bytes b (length values) fromRange sized (omega arith))
+
+    counted : valCount image a ≡ length values
+    unfolding valCount fieldsAt
+    counted = ap (λ (g : Fields). g .valcount) fields
+
+    found : isRanged image a ≡ b .ranged
+    unfolding isRanged
+    found = cc (long, linked, counted, range-found (b .ranged) n (length values))
+
+    range : rangeAt image (fieldsPlace image a + 8) (isRanged image a) ≡ storedRange b (b .ranged)
+    range =
+        let p : fieldsPlace image a + 8 ≡ a + 64 + 8 * n = omega (arith, place) in
+        cc (found, range-drop image (a + 64 + 8 * n) (b .ranged), at-range, range-bytes b (b .ranged) fromValues sized)
+
+    behind : valuesPlace image a ≡ a + 64 + 8 * n + rangeSize (b .ranged)
+    unfolding valuesPlace
+    behind = rw found (omega (arith, place))
+
+    pub parse-written : parsed (front ++ (blockBytes b refs values ++ rest)) (length front) ≡ Whole (stored (length front) b (length refs) (length values))
+    unfolding parsed inside isConversion opened blockEnd blockAt stored writeSize headerAt
+    parse-written =
+        let all : length image ≡ a + (size + length rest) = simp (length-append, length-block) in
+        let first : inside image a ≡ true = le-leb (a + 24) (length image) (omega arith) in
+        let second : isConversion image a ≡ true = eq-eqb (word32 image a) conversionId (ap (λ (h : Header). h .id) header) in
+        let end : blockEnd image a ≤ length image = omega (arith, behind, counted) in
+        let block : blockAt image a ≡ stored a b n (length values) = cc (long, linked, fixed, fields, range, behind) in
+        rw (first, second, le-leb (blockEnd image a) (length image) end) (ap Whole block)
+
+-- ---- the same, said of the writer's own answer: where it wrote, the output parses at 0
+pub output-parses : (b : Block) (refs values out : List ℕ) (k : ℕ) (img : List ℕ) → Sized b
+    → writeSize (b .ranged) (length refs) (length values) < 2 ^ 64 → writing b refs values out ≡ wrote (Bytes k) img
+    → parsed img 0 ≡ Whole (stored 0 b (length refs) (length values))
+unfolding writing
+output-parses b refs values out k img sized fits e =
+    let says : answerOf (b .ranged) (length refs) (length values) (length out) ≡ Bytes k = ap (λ (o : Outcome). o .says) e in
+    let holds : outputOf (Bytes k) (blockBytes b refs values) out ≡ img =
+    ap (λ (w : Written). outputOf w (blockBytes b refs values) out) (sym says) ∙ ap (λ (o : Outcome). o .holds) e in
+    let fit = answer-fits (b .ranged) (length refs) (length values) (length out) k says in
+    rw (sym holds) (parse-written [] (drop k out) b refs values sized (fit .few) fits)

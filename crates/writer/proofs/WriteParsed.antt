@@ -1,0 +1,150 @@
+-- Document 01: "Writing what was parsed returns the block's bytes when reserved is zero, links >= 4 and block length equals the bytes read".
+-- Each part of the block is a part of the image, and the parts stand one behind the other. Assumes nothing.
+use mathlib.Core.Path.{_≡_, refl, sym, ap, _∙_}
+use mathlib.Core.Bool.{Bool, true, false}
+use mathlib.Core.List.{List, [], _∷_, _++_}
+use Prim.Native.Nat.{ℕ, _+_, _-_, _*_, _≤_}
+use native.Mathlib.Omega.{arith}
+use borrow.Author.Tests.{eqb-true}
+use lib.ListN.{length, take, drop}
+use lib.Ieee.{Float, binary64, ofBits, toBits, nanBits}
+use Rattle.words.specs.Words.{word16, word32, word64, words, valueAt, links, bytes2, bytes4, bytes8}
+use Rattle.words.proofs.Laws.{Words64}
+use Rattle.words.proofs.Slices.{Bytes, join, two-bytes, bytes2-word16, bytes4-word32, bytes8-word64, links-words, length-words, word64-small, words-small}
+use Rattle.floats.specs.Kept.{keptBits}
+use Rattle.floats.proofs.Kept.{own-if-plain, kept-of-read}
+use Rattle.common.specs.Header.{isConversion, conversionId}
+use Rattle.blocks.specs.Block.{fixedAt, refCount, fieldsPlace, fieldsAt, valCount, isRanged, rangeSize, rangeAt, valuesPlace, blockEnd, blockAt, parsed}
+use Rattle.writer.specs.Write.{writeSize, headerBytes, fixedBytes, fieldBytes, rangeBytes, frontBytes, blockBytes, throughFloats}
+use Rattle.blocks.specs.declared.Range.{Range}
+use Rattle.blocks.specs.declared.Block.{Block}
+use Rattle.blocks.specs.declared.Parsed.the-variants.{Whole}
+use Rattle.blocks.specs.Make.{rangeOf}
+use Rattle.blocks.proofs.Opening.{parsed-whole}
+
+-- ---- xs are the bytes of s from one place up to another
+record Part (s : List ℕ) (from to : ℕ) (xs : List ℕ) : Type 0 where
+  forward : from ≤ to
+  same : xs ≡ take (to - from) (drop from s)
+
+part : {xs : List ℕ} (s : List ℕ) (from to size : ℕ) → from + size ≡ to → xs ≡ take size (drop from s) → Part s from to xs
+part s from to size e same =
+    let long : size ≡ to - from = omega arith in
+    record { forward = omega arith; same = cc }
+
+both : {s : List ℕ} {from mid to : ℕ} {xs ys : List ℕ} → Part s from mid xs → Part s mid to ys → Part s from to (xs ++ ys)
+both {s} {from} {mid} {to} first second =
+    let place : mid ≡ from + (mid - from) = omega arith in
+    part s from to ((mid - from) + (to - mid)) (omega arith) (join s from (mid - from) (to - mid) (first .same) (cc))
+
+-- ---- whether a range that was read is there
+range-is : (s : List ℕ) (p : ℕ) (r : Bool) → rangeAt s p r .ranged ≡ r
+range-is s p true = refl
+range-is s p false = refl
+
+-- ---- each number stands where it was read
+module _ (s : List ℕ) (h : Bytes s) where
+  two : (v from to : ℕ) → v ≡ word16 s from → from + 2 ≡ to → to ≤ length s → Part s from to (bytes2 v)
+  two v from to e f fits = part s from to 2 f (ap bytes2 e ∙ bytes2-word16 s h from (omega arith))
+
+  four : (v from to : ℕ) → v ≡ word32 s from → from + 4 ≡ to → to ≤ length s → Part s from to (bytes4 v)
+  four v from to e f fits = part s from to 4 f (ap bytes4 e ∙ bytes4-word32 s h from (omega arith))
+
+  eight : (v from to : ℕ) → v ≡ word64 s from → from + 8 ≡ to → to ≤ length s → Part s from to (bytes8 v)
+  eight v from to e f fits = part s from to 8 f (ap bytes8 e ∙ bytes8-word64 s h from (omega arith))
+
+  many : (n from to : ℕ) → from + 8 * n ≡ to → to ≤ length s → Part s from to (links (words s from n))
+  many n from to f fits = part s from to (8 * n) f (links-words s h from n (omega arith))
+
+  -- ---- each part of a block
+  -- for a float that was read, the word that was read is written, a NaN's too
+  kept : {x : Float} {w : ℕ} (at : ℕ) → x ≡ valueAt s at → w ≡ word64 s at → keptBits x w ≡ word64 s at
+  unfolding valueAt
+  kept at e f = rw (e, f) (kept-of-read (word64 s at) (word64-small s h at))
+
+  -- a range that was read, or none
+  range-part : (b : Block) (r : Bool) (from to : ℕ) → rangeOf b ≡ rangeAt s from r → from + rangeSize r ≡ to → to ≤ length s
+      → Part s from to (rangeBytes b (b .ranged))
+  range-part b true from to e f fits =
+      let ranged : b .ranged ≡ true = ap (λ (x : Range). x .ranged) e in
+      let low = kept from (ap (λ (x : Range). x .minimum) e) (ap (λ (x : Range). x .minword) e) in
+      let high = kept (from + 8) (ap (λ (x : Range). x .maximum) e) (ap (λ (x : Range). x .maxword) e) in
+      rw ranged (both (eight _ from (from + 8) low refl (omega arith)) (eight _ (from + 8) to high (omega arith) fits))
+  range-part b false from to e f fits = let ranged : b .ranged ≡ false = ap (λ (x : Range). x .ranged) e in rw ranged (part s from to 0 f refl)
+
+  -- the block at a, read whole
+  module _ (a : ℕ) (fits : blockEnd s a ≤ length s) where
+    abbrev refs : List ℕ
+    refs = words s (a + 56) (refCount s a)
+
+    abbrev values : List ℕ
+    values = words s (valuesPlace s a) (valCount s a)
+
+    header-part : (size count : ℕ) → size ≡ word64 s (a + 8) → count ≡ word64 s (a + 16) → word32 s a ≡ conversionId → word32 s (a + 4) ≡ 0
+        → Part s a (a + 24) (headerBytes size count)
+    unfolding headerBytes blockEnd valuesPlace fieldsPlace
+    header-part size count e f id none =
+        both (four conversionId a (a + 4) (sym id) refl (omega arith))
+        (both (four 0 (a + 4) (a + 8) (sym none) (omega arith) (omega arith))
+        (both (eight size (a + 8) (a + 16) e (omega arith) (omega arith)) (eight count (a + 16) (a + 24) f (omega arith) (omega arith))))
+
+    fixed-part : Part s (a + 24) (a + 56) (fixedBytes (blockAt s a))
+    unfolding blockAt fixedBytes fixedAt blockEnd valuesPlace fieldsPlace
+    fixed-part =
+        both (eight _ (a + 24) (a + 24 + 8) refl refl (omega arith))
+        (both (eight _ (a + 24 + 8) (a + 24 + 16) refl (omega arith) (omega arith))
+        (both (eight _ (a + 24 + 16) (a + 24 + 24) refl (omega arith) (omega arith)) (eight _ (a + 24 + 24) (a + 56) refl (omega arith) (omega arith))))
+
+    refs-part : Part s (a + 56) (fieldsPlace s a) (links refs)
+    unfolding blockEnd valuesPlace fieldsPlace
+    refs-part = many (refCount s a) (a + 56) (fieldsPlace s a) (omega arith) (omega arith)
+
+    fields-part : (count : ℕ) → count ≡ valCount s a → Part s (fieldsPlace s a) (fieldsPlace s a + 8) (fieldBytes (blockAt s a) count)
+    unfolding blockAt fieldBytes fieldsAt valCount blockEnd valuesPlace
+    fields-part count e =
+        let p = fieldsPlace s a in
+        both (part s p (p + 2) 2 refl (two-bytes s p (omega arith)))
+        (both (two _ (p + 2) (p + 4) refl (omega arith) (omega arith))
+        (both (two _ (p + 4) (p + 6) refl (omega arith) (omega arith)) (two count (p + 6) (p + 8) e (omega arith) (omega arith))))
+
+    block-part : word32 s a ≡ conversionId → word32 s (a + 4) ≡ 0 → 4 ≤ word64 s (a + 16) → word64 s (a + 8) + a ≡ blockEnd s a
+        → Part s a (blockEnd s a) (blockBytes (blockAt s a) refs values)
+    unfolding blockBytes frontBytes blockAt writeSize blockEnd valuesPlace fieldsPlace refCount
+    block-part id none enough long =
+        let range = range-part (blockAt s a) (isRanged s a) (fieldsPlace s a + 8) (valuesPlace s a) refl refl (omega arith) in
+        let count : length values ≡ valCount s a = length-words s (valuesPlace s a) (valCount s a) in
+        let linked : 4 + length refs ≡ word64 s (a + 16) = omega (arith, length-words s (a + 56) (refCount s a)) in
+        let ranged : rangeSize (blockAt s a .ranged) ≡ rangeSize (isRanged s a) = ap rangeSize (range-is s (fieldsPlace s a + 8) (isRanged s a)) in
+        let size : writeSize (blockAt s a .ranged) (length refs) (length values) ≡ word64 s (a + 8) = omega arith in
+        both (both (both (both (both (header-part _ _ size linked id none) fixed-part) refs-part) (fields-part _ count)) range)
+        (many (valCount s a) (valuesPlace s a) (blockEnd s a) refl fits)
+
+pub write-parsed : (img : List ℕ) (a : ℕ) (b : Block) → Bytes img → parsed img a ≡ Whole b → word32 img (a + 4) ≡ 0 → 4 ≤ b .links
+    → b .length + a ≡ blockEnd img a
+    → blockBytes b (words img (b .firstref) (b .links - 4)) (words img (b .firstval) (b .valcount)) ≡ take (b .length) (drop a img)
+unfolding isConversion blockAt fieldsAt valCount refCount
+write-parsed img a b h whole none enough long =
+    let w = parsed-whole img a b whole in
+    let id = eqb-true (word32 img a) conversionId (w .conversion) in
+    let all = block-part img h a (w .fits) id none (rw (w .same) at enough) (rw (w .same) at long) in
+    let size : blockEnd img a - a ≡ b .length = omega arith in
+    rw (w .same) (all .same ∙ ap (λ (k : ℕ). take k (drop a img)) (rw (w .same) at size))
+
+-- ---- values that are no NaN may pass through floats
+abbrev pub NoNan : List ℕ → Type 0
+NoNan [] = Unit {0}
+NoNan (w ∷ ws) = (nanBits binary64 w ≡ false) × NoNan ws
+
+pub float-form : (ws : List ℕ) → Words64 ws → NoNan ws → throughFloats ws ≡ ws
+float-form [] h p = refl
+float-form (w ∷ ws) h p =
+    let first : toBits binary64 (ofBits binary64 w) ≡ w = sym (own-if-plain (ofBits binary64 w) w (p .0)) ∙ kept-of-read w (h .0) in
+    cc (float-form ws (h .1) (p .1))
+
+pub write-parsed-floats : (img : List ℕ) (a : ℕ) (b : Block) → Bytes img → parsed img a ≡ Whole b → word32 img (a + 4) ≡ 0 → 4 ≤ b .links
+    → b .length + a ≡ blockEnd img a → NoNan (words img (b .firstval) (b .valcount))
+    → blockBytes b (words img (b .firstref) (b .links - 4)) (throughFloats (words img (b .firstval) (b .valcount)))
+    ≡ take (b .length) (drop a img)
+write-parsed-floats img a b h whole none enough long plain =
+    rw (float-form (words img (b .firstval) (b .valcount)) (words-small img h (b .firstval) (b .valcount)) plain)
+    (write-parsed img a b h whole none enough long)

@@ -1,0 +1,41 @@
+-- `writer::put_header` meets its contract. Assumes nothing.
+use denote.Ref.{now}
+use Rattle.words.specs.Words.{bytes4, bytes8}
+use Rattle.words.proofs.Laws.{put-four}
+use Rattle.common.specs.Header.{conversionId}
+use Rattle.writer.specs.Write.{headerBytes}
+use borrow.Author.Needs.{needs}
+use Rattle.writer.proofs.put_header.Statement.{statement}
+use Rattle.writer.proofs.put_header.Tie as tie
+
+put-u32-requires : tie.Need-put-u32-requires
+put-u32-requires c κs = search needs
+
+put-u32-requires-2 : tie.Need-put-u32-requires-2
+put-u32-requires-2 c κs = search needs
+
+put-u64-requires : tie.Need-put-u64-requires
+put-u64-requires c κs = search needs
+
+put-u64-requires-2 : tie.Need-put-u64-requires-2
+put-u64-requires-2 c κs = search needs
+
+same-length : tie.Need-same-length
+same-length c = search needs
+
+returns : tie.Need-returns
+unfolding headerBytes
+returns c =
+    let a = c .before .before .before .before .before .before .before .before .before .before .before .before .before .before .before .before .before .args in
+    cc (put-four (bytes4 conversionId) (bytes4 0) (bytes8 (a .length)) (bytes8 (a .links)) (now (a .out)) 0)
+
+pub put-header-spec : {M : Type 1} → statement M
+put-header-spec =
+    tie.close
+    (tie.spec
+    put-u32-requires
+    put-u32-requires-2
+    put-u64-requires
+    put-u64-requires-2
+    same-length
+    returns)

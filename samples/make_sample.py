@@ -1,0 +1,99 @@
+#!/usr/bin/env python3
+"""Makes the sample image: the conversions of a tractor's gateway.
+
+It writes crates/show_blocks/stdin, which the program show_blocks lists. It is written from document 01 and the MDF standard alone, with
+nothing but Python's own library, and uses none of the project's own code, so that the image says nothing about it.
+
+The image is 64 bytes of identification, then ##TX, ##MD and ##CC blocks one behind the other, each at a multiple of 8.
+"""
+import os
+import struct
+
+blocks = []  # (label, size in bytes, function of the addresses that gives the bytes)
+
+
+def padded(data):
+    return data + bytes(-len(data) % 8)
+
+
+def header(block_id, length, links):
+    return struct.pack("<4s4xQQ", block_id, length, links)
+
+
+def plain(block_id, text):
+    """A text block: its bytes end in a zero, and zeros fill it up to a multiple of 8."""
+    body = padded(text.encode() + b"\0")
+    data = header(block_id, 24 + len(body), 0) + body
+    blocks.append((text, len(data), lambda places: data))
+
+
+def conversion(label, kind, name="", unit="", comment="", inverse="", refs=(), values=(), bounds=None, precision=0, flags=0, links=None):
+    """A ##CC block. Links are given by the label of the block that they lead to; an empty label is NIL.
+
+    A value is a float, or an int for 64 bits as they are. `links` puts another link count than the true one into the header.
+    """
+    words = [struct.pack("<Q", v) if isinstance(v, int) else struct.pack("<d", v) for v in values]
+    size = 64 + 8 * len(refs) + (16 if bounds else 0) + 8 * len(words)
+
+    def data(places):
+        to = [places[x] if x else 0 for x in (name, unit, comment, inverse, *refs)]
+        out = header(b"##CC", size, len(to) if links is None else links)
+        out += struct.pack("<%dQ" % len(to), *to)
+        out += struct.pack("<BBHHH", kind, precision, flags, len(refs), len(words))
+        if bounds:
+            out += struct.pack("<dd", *bounds)
+        return out + b"".join(words)
+
+    blocks.append((label, size, data))
+
+
+for text in ("Engine hours", "h", "Torque", "Nm", "at the rear shaft", "Raw torque", "Fuel rate", "l/h", "Slip", "%", "100*(X1-0.3)/X1"):
+    plain(b"##TX", text)
+conversion("identity", 0, name="Engine hours", unit="h")
+conversion("linear", 1, name="Torque", unit="Nm", comment="at the rear shaft", inverse="raw", values=(0.0, 0.125), precision=3, flags=1)
+conversion("raw", 1, name="Raw torque", values=(0.0, 8.0))
+conversion("rational", 2, name="Fuel rate", unit="l/h", values=(0.0, 1.0, 0.5, 0.0, 0.0, 3.0), bounds=(0.0, 60.5), precision=1, flags=3)
+conversion("formula", 3, name="Slip", unit="%", refs=("100*(X1-0.3)/X1",))
+
+for text in ("Tank level", "l", "Tank level steps", "Hitch position"):
+    plain(b"##TX", text)
+conversion("interpolated", 4, name="Tank level", unit="l", values=(0.0, 10.0, 10.0, 20.0, 20.0, 60.0))
+conversion("nearest", 5, name="Tank level steps", unit="l", values=(0.0, 10.0, 10.0, 20.0, 20.0, 60.0))
+# The flag that says a range is there, and no range.
+conversion("ranges", 6, name="Hitch position", values=(0.0, 10.0, 1.0, 10.0, 20.0, 2.0, 9.0), flags=2)
+
+for text in ("Gear", "Low", "PTO", "Transmission", "Oil temperature", "\u00b0C", "cold", "warm"):
+    plain(b"##TX", text)
+conversion("gear", 7, name="Gear", refs=("Low",), values=(2.0,))
+conversion("oil", 1, name="Oil temperature", unit="\u00b0C", values=(-40.0, 0.5))
+conversion("oil text", 8, name="Oil temperature", refs=("cold", "warm", "oil"), values=(0.0, 10.0, 10.0, 20.0))
+
+for text in ("Lamp command", "off", "on", "Fault text", "E1", "oil pressure low", "E2", "battery low", "fault not known"):
+    plain(b"##TX", text)
+conversion("lamp", 9, name="Lamp command", refs=("off", "on"), values=(0.0, 1.0, -1.0))
+conversion("fault", 10, name="Fault text", refs=("E1", "oil pressure low", "E2", "battery low", "fault not known"))
+conversion("groups", 11, name="Transmission", refs=("gear", "PTO"), values=(3, 12))
+
+plain(b"##TX", "Vendor scale")
+plain(b"##MD", "<CCcomment/>")
+conversion("vendor", 42, name="Vendor scale", comment="<CCcomment/>", refs=("", "<CCcomment/>", "damaged", "Vendor scale"),
+           values=(0.1, -2.5, 1 / 3, -0.0, 1e-9, 0.99999999, 123456.789, 2.0 ** 53 - 1, -(2.0 ** 53), float("inf"), float("-inf"), float("nan")))
+# A link count that no image holds: this one is refused.
+conversion("damaged", 1, values=(0.0, 1.0), links=2 ** 60)
+
+places, at = {}, 64
+for label, size, _ in blocks:
+    assert label not in places, label
+    places[label] = at
+    at += size + -size % 8
+
+image = b"MDF     4.20    rattle  ".ljust(28, b"\0") + struct.pack("<H", 420)
+image = image.ljust(64, b"\0")
+for label, size, data in blocks:
+    image += padded(data(places))
+assert len(image) == at <= 65536
+
+target = os.path.join(os.path.dirname(os.path.abspath(__file__)), "..", "crates", "show_blocks", "stdin")
+with open(target, "wb") as out:
+    out.write(image)
+print(len(image), "bytes,", len(blocks), "blocks")
