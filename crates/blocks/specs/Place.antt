@@ -6,7 +6,7 @@ use mathlib.Core.List.{List}
 use lib.Dec.{leb, ltb}
 use lib.ListN as ListN
 use lib.Ieee.{binary64, ofBits}
-use Rattle.words.specs.Words.{word64}
+use Rattle.words.specs.Words.{word64, words}
 use Rattle.blocks.specs.declared.Block.{Block}
 use Rattle.blocks.specs.declared.Number.{Number}
 use Rattle.blocks.specs.declared.Number.the-variants.{Value, NoValue}
@@ -31,3 +31,7 @@ numbered NoWord = NoValue
 
 unfoldable pub valueOf : List ℕ → Block → ℕ → Number
 valueOf img b i = numbered (valueWordOf img b i)
+
+-- all of a block's references, in order
+unfoldable pub references : List ℕ → Block → List ℕ
+references img b = words img (b .firstref) (b .links - 4)

@@ -322,6 +322,13 @@ impl Block {
         }
     }
 
+    // How many references it has.
+    pub fn reference_count(self) -> u64
+        ensures { λ r. ⌜ r ≡ self .links - 4 ⌝ }
+    {
+        less_fixed(self.links)
+    }
+
     // The i-th reference.
     pub fn reference(self, image: &[u8], i: u64) -> Word
         ensures { λ r. ⌜ r ≡ referenceOf (now (image .entry)) self i ⌝ }

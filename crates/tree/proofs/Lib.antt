@@ -1,0 +1,6 @@
+pub mod Paths
+pub mod Answers
+pub mod Blocks
+pub mod Checks
+pub mod Acceptance
+pub mod Cases
