@@ -7,6 +7,7 @@ use common::refusal::Refusal;
 use common::refusal::Word;
 use common::text::Text;
 use common::types::ConversionType;
+use tree::Checked;
 
 pub fn labelled(label: &[u8], n: u64) {
     io::write_all(1, label);
@@ -41,6 +42,9 @@ fn refusal_name(r: Refusal) {
         Refusal::Outside(_) => io::write_all(1, b" Outside"),
         Refusal::NotConversion(_) => io::write_all(1, b" NotConversion"),
         Refusal::Short(_) => io::write_all(1, b" Short"),
+        Refusal::Limit(_) => io::write_all(1, b" Limit"),
+        Refusal::Deep(_) => io::write_all(1, b" Deep"),
+        Refusal::Loop(_) => io::write_all(1, b" Loop"),
         _ => io::write_all(1, b" Other"),
     }
     ;
@@ -230,12 +234,34 @@ fn refused(r: Refusal, at: u64) {
     io::write_all(1, b"\n");
 }
 
+fn refused_tree(r: Refusal) {
+    labelled(b"  tree refused ", r.number() as u64);
+    refusal_name(r);
+    match r.address() {
+        Word::Bits(a) => labelled(b" at ", a),
+        Word::NoWord => {}
+    }
+}
+
+// The most blocks that a tree may have here.
+const LIMIT: u32 = 4096;
+
+// How many blocks the conversion's tree has, repeats counted, or why it is refused.
+fn tree_line(image: &[u8], at: u64) {
+    match tree::check(image, at, LIMIT) {
+        Checked::Accepted(n) => labelled(b"  blocks in its tree: ", n as u64),
+        Checked::Unsound(r) => refused_tree(r),
+    }
+    io::write_all(1, b"\n");
+}
+
 // The block at `at`, or why it is refused.
 pub fn conversion(image: &[u8], at: u64) {
     match Block::parse(image, at) {
         Parsed::Whole(b) => {
             title(image, b, at);
             content(image, b);
+            tree_line(image, at);
         }
         Parsed::Refused(r) => refused(r, at),
     }

@@ -1,0 +1,18 @@
+-- `rules::number::value_at` meets its contract. Assumes nothing.
+use Rattle.words.specs.Words.{valueAt}
+use borrow.Author.Needs.{needs}
+use Rattle.rules.proofs.number.value_at.Statement.{statement}
+use Rattle.rules.proofs.number.value_at.Tie as tie
+
+u64-at-requires : tie.Need-u64-at-requires
+u64-at-requires c κs = search needs
+
+from-bits-requires : tie.Need-from-bits-requires
+from-bits-requires c κs = search needs
+
+returns : tie.Need-returns
+unfolding valueAt
+returns c = cc
+
+pub value-at-spec : {M : Type 1} → statement M
+value-at-spec = tie.close (tie.spec u64-at-requires from-bits-requires returns)

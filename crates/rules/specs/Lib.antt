@@ -1,0 +1,5 @@
+pub mod Values
+pub mod Numbers
+pub mod Linear
+pub mod Table
+pub mod Search
