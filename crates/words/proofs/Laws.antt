@@ -19,15 +19,18 @@ put-append (x ∷ xs) ys out at =
     let place : (at + 1) + length xs ≡ at + suc (length xs) = omega arith in
     put-append xs ys (set out at x) (at + 1) ∙ ap (λ (k : ℕ). put (put (set out at x) (at + 1) xs) k ys) place
 
--- four parts and five, as a record is written
-pub put-four : (a b c d out : List ℕ) (at : ℕ)
-    → put out at (a ++ b ++ c ++ d) ≡ put (put (put (put out at a) (at + length a) b) (at + length (a ++ b)) c) (at + length (a ++ b ++ c)) d
-put-four a b c d out at = rw (put-append (a ++ b ++ c) d out at, put-append (a ++ b) c out at, put-append a b out at)
+-- parts that were put one behind the other, two, four and five of them, are one
+pub two-puts : (a b o₀ : List ℕ) (at : ℕ) {o₁ o₂ : List ℕ} → o₁ ≡ put o₀ at a → o₂ ≡ put o₁ (at + length a) b → o₂ ≡ put o₀ at (a ++ b)
+two-puts a b o₀ at p q = q ∙ ap (λ (o : List ℕ). put o (at + length a) b) p ∙ sym (put-append a b o₀ at)
 
-pub put-five : (a b c d e out : List ℕ) (at : ℕ)
-    → put out at (a ++ b ++ c ++ d ++ e)
-    ≡ put (put (put (put (put out at a) (at + length a) b) (at + length (a ++ b)) c) (at + length (a ++ b ++ c)) d) (at + length (a ++ b ++ c ++ d)) e
-put-five a b c d e out at = rw (put-append (a ++ b ++ c ++ d) e out at, put-four a b c d out at)
+pub four-puts : (a b c d o₀ : List ℕ) (at : ℕ) {o₁ o₂ o₃ o₄ : List ℕ} → o₁ ≡ put o₀ at a → o₂ ≡ put o₁ (at + length a) b
+    → o₃ ≡ put o₂ (at + length (a ++ b)) c → o₄ ≡ put o₃ (at + length (a ++ b ++ c)) d → o₄ ≡ put o₀ at (a ++ b ++ c ++ d)
+four-puts a b c d o₀ at p q r s = two-puts (a ++ b ++ c) d o₀ at (two-puts (a ++ b) c o₀ at (two-puts a b o₀ at p q) r) s
+
+pub five-puts : (a b c d e o₀ : List ℕ) (at : ℕ) {o₁ o₂ o₃ o₄ o₅ : List ℕ} → o₁ ≡ put o₀ at a → o₂ ≡ put o₁ (at + length a) b
+    → o₃ ≡ put o₂ (at + length (a ++ b)) c → o₄ ≡ put o₃ (at + length (a ++ b ++ c)) d → o₅ ≡ put o₄ (at + length (a ++ b ++ c ++ d)) e
+    → o₅ ≡ put o₀ at (a ++ b ++ c ++ d ++ e)
+five-puts a b c d e o₀ at p q r s t = two-puts (a ++ b ++ c ++ d) e o₀ at (four-puts a b c d o₀ at p q r s) t
 
 pub put-length : (bs out : List ℕ) (at : ℕ) → length (put out at bs) ≡ length out
 unfolding put

@@ -8,7 +8,7 @@ use borrow.Author.Tests.{lt-ltb, le-ltb, ltb-false}
 use lib.Dec.{ltb}
 use lib.ListN as ListN
 use Rattle.words.specs.Words.{put, links}
-use Rattle.words.proofs.Laws.{put-append, put-five, put-front, length-links}
+use Rattle.words.proofs.Laws.{put-append, five-puts, put-front, length-links}
 use Rattle.blocks.specs.Block.{rangeSize}
 use Rattle.writer.specs.Write.{writeSize, headerBytes, fixedBytes, fieldBytes, rangeBytes, frontBytes, blockBytes, answerOf, wrote, writing}
 use Rattle.blocks.specs.declared.Block.{Block}
@@ -20,23 +20,6 @@ use Rattle.writer.specs.declared.Written.the-variants.{Bytes, Unwritten}
 pub length-range : (b : Block) (ranged : Bool) → ListN.length (rangeBytes b ranged) ≡ rangeSize ranged
 length-range b true = refl
 length-range b false = refl
-
--- the places of the fields and of the range, behind the header, the fixed links and the references
-front-places : (b : Block) (refs : List ℕ) (values length : ℕ) (out : List ℕ) →
-    let head = headerBytes length (4 + ListN.length refs) in
-    let fixed = fixedBytes b in
-    let fields = fieldBytes b values in
-    let range = rangeBytes b (b .ranged) in
-    put (put (put (put (put out 0 head) (0 + ListN.length head) fixed) (0 + ListN.length (head ++ fixed)) (links refs)) (0 + ListN.length (head ++ fixed ++ links refs)) fields) (0 + ListN.length (head ++ fixed ++ links refs ++ fields)) range
-    ≡ put (put (put (put (put out 0 head) 24 fixed) 56 (links refs)) (56 + 8 * ListN.length refs) fields) (56 + 8 * ListN.length refs + 8) range
-unfolding headerBytes fixedBytes fieldBytes
-front-places b refs values length out =
-    let l = length-links refs in
-    let head = headerBytes length (4 + ListN.length refs) in
-    let p : 0 + ListN.length (head ++ fixedBytes b ++ links refs) ≡ 56 + 8 * ListN.length refs = omega arith in
-    let q : 0 + ListN.length (head ++ fixedBytes b ++ links refs ++ fieldBytes b values) ≡ 56 + 8 * ListN.length refs + 8 =
-    omega (arith, ListN.length-append (head ++ fixedBytes b ++ links refs) (fieldBytes b values)) in
-    rw (p, q)
 
 pub length-front : (b : Block) (refs : List ℕ) (values length : ℕ)
     → ListN.length (frontBytes b refs values length) ≡ 64 + 8 * ListN.length refs + rangeSize (b .ranged)
@@ -52,13 +35,16 @@ pub front-parts : (b : Block) (refs : List ℕ) (values length : ℕ) (o₀ : Li
     → o₁ ≡ put o₀ 0 (headerBytes length (4 + ListN.length refs)) → o₂ ≡ put o₁ 24 (fixedBytes b) → o₃ ≡ put o₂ 56 (links refs)
     → o₄ ≡ put o₃ (56 + 8 * ListN.length refs) (fieldBytes b values) → o₅ ≡ put o₄ (56 + 8 * ListN.length refs + 8) (rangeBytes b (b .ranged))
     → o₅ ≡ put o₀ 0 (frontBytes b refs values length)
-unfolding frontBytes
-front-parts b refs values length o₀ p q r s t =
-    t
-    ∙ rw (s, r, q, p)
-    (sym
-    (put-five (headerBytes length (4 + ListN.length refs)) (fixedBytes b) (links refs) (fieldBytes b values) (rangeBytes b (b .ranged)) o₀ 0
-    ∙ front-places b refs values length o₀))
+unfolding frontBytes headerBytes fixedBytes fieldBytes
+front-parts b refs values length o₀ {o₃ = o₃} {o₄ = o₄} p q r s t =
+    let head = headerBytes length (4 + ListN.length refs) in
+    let fields = fieldBytes b values in
+    let range = rangeBytes b (b .ranged) in
+    let l = length-links refs in
+    let third : 56 + 8 * ListN.length refs ≡ 0 + ListN.length (head ++ fixedBytes b ++ links refs) = omega arith in
+    let fourth : 56 + 8 * ListN.length refs + 8 ≡ 0 + ListN.length (head ++ fixedBytes b ++ links refs ++ fields) =
+    omega (arith, ListN.length-append (head ++ fixedBytes b ++ links refs) fields) in
+    five-puts head (fixedBytes b) (links refs) fields range o₀ 0 p q r (s ∙ ap (λ (k : ℕ). put o₃ k fields) third) (t ∙ ap (λ (k : ℕ). put o₄ k range) fourth)
 
 -- block length of exactly what is written
 pub length-block : (b : Block) (refs values : List ℕ)

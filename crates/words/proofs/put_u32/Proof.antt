@@ -3,7 +3,7 @@ use borrow.Author.Needs.{needs}
 use Prim.Native.Nat.{_%_, _/_}
 use denote.Ref.{now}
 use Rattle.words.specs.Words.{bytes2}
-use Rattle.words.proofs.Laws.{put-append}
+use Rattle.words.proofs.Laws.{two-puts}
 use Rattle.words.proofs.put_u32.Statement.{statement}
 use Rattle.words.proofs.put_u32.Tie as tie
 
@@ -28,7 +28,7 @@ same-length c = search needs
 returns : tie.Need-returns
 returns c =
     let a = c .before .before .before .before .before .before .before .before .before .args in
-    cc (put-append (bytes2 (a .v % 65536)) (bytes2 (a .v / 65536)) (now (a .out)) (a .at))
+    two-puts (bytes2 (a .v % 65536)) (bytes2 (a .v / 65536)) (now (a .out)) (a .at) (c .before .before .before .before .before .before .put-u16 .ensures) (c .before .before .put-u162 .ensures)
 
 pub put-u32-spec : {M : Type 1} → statement M
 put-u32-spec =

@@ -3,7 +3,7 @@ use borrow.Author.Needs.{needs}
 use Prim.Native.Nat.{_%_, _/_}
 use denote.Ref.{now}
 use Rattle.words.specs.Words.{bytes4}
-use Rattle.words.proofs.Laws.{put-append}
+use Rattle.words.proofs.Laws.{two-puts}
 use Rattle.words.proofs.put_u64.Statement.{statement}
 use Rattle.words.proofs.put_u64.Tie as tie
 
@@ -28,7 +28,7 @@ same-length c = search needs
 returns : tie.Need-returns
 returns c =
     let a = c .before .before .before .before .before .before .before .before .before .args in
-    cc (put-append (bytes4 (a .v % 4294967296)) (bytes4 (a .v / 4294967296)) (now (a .out)) (a .at))
+    two-puts (bytes4 (a .v % 4294967296)) (bytes4 (a .v / 4294967296)) (now (a .out)) (a .at) (c .before .before .before .before .before .before .put-u32 .ensures) (c .before .before .put-u322 .ensures)
 
 pub put-u64-spec : {M : Type 1} → statement M
 put-u64-spec =

@@ -2,7 +2,7 @@
 use mathlib.Core.List.{[], _∷_}
 use denote.Ref.{now}
 use Rattle.words.specs.Words.{bytes2}
-use Rattle.words.proofs.Laws.{put-five}
+use Rattle.words.proofs.Laws.{five-puts}
 use Rattle.writer.specs.Write.{fieldBytes}
 use borrow.Author.Needs.{needs}
 use Rattle.writer.proofs.put_fields.Statement.{statement}
@@ -43,7 +43,8 @@ unfolding fieldBytes
 returns c =
     let a = c .before .before .before .before .before .before .before .before .before .before .before .before .before .before .before .before .before .before .before .before .before .args in
     let b = a .block in
-    cc (put-five (b .kind ∷ []) (b .precision ∷ []) (bytes2 (b .flags)) (bytes2 (b .refcount)) (bytes2 (a .values)) (now (a .out)) (a .at))
+    five-puts (b .kind ∷ []) (b .precision ∷ []) (bytes2 (b .flags)) (bytes2 (b .refcount)) (bytes2 (a .values)) (now (a .out)) (a .at)
+    (c .before .before .before .before .before .before .before .before .before .before .before .before .before .before .before .before .before .before .put-u8 .ensures) (c .before .before .before .before .before .before .before .before .before .before .before .before .before .before .put-u82 .ensures) (c .before .before .before .before .before .before .before .before .before .before .put-u16 .ensures) (c .before .before .before .before .before .before .put-u162 .ensures) (c .before .before .put-u163 .ensures)
 
 pub put-fields-spec : {M : Type 1} → statement M
 put-fields-spec =

@@ -1,7 +1,7 @@
 -- `writer::put_fixed` meets its contract. Assumes nothing.
 use denote.Ref.{now}
 use Rattle.words.specs.Words.{bytes8}
-use Rattle.words.proofs.Laws.{put-four}
+use Rattle.words.proofs.Laws.{four-puts}
 use Rattle.writer.specs.Write.{fixedBytes}
 use borrow.Author.Needs.{needs}
 use Rattle.writer.proofs.put_fixed.Statement.{statement}
@@ -27,7 +27,8 @@ unfolding fixedBytes
 returns c =
     let a = c .before .before .before .before .before .before .before .before .before .before .before .before .before .before .before .before .before .args in
     let b = a .block in
-    cc (put-four (bytes8 (b .name)) (bytes8 (b .unit)) (bytes8 (b .comment)) (bytes8 (b .inverse)) (now (a .out)) 24)
+    four-puts (bytes8 (b .name)) (bytes8 (b .unit)) (bytes8 (b .comment)) (bytes8 (b .inverse)) (now (a .out)) 24 (c .before .before .before .before .before .before .before .before .before .before .before .before .before .before .put-u64 .ensures)
+    (c .before .before .before .before .before .before .before .before .before .before .put-u642 .ensures) (c .before .before .before .before .before .before .put-u643 .ensures) (c .before .before .put-u644 .ensures)
 
 pub put-fixed-spec : {M : Type 1} → statement M
 put-fixed-spec =

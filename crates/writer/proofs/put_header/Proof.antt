@@ -1,7 +1,7 @@
 -- `writer::put_header` meets its contract. Assumes nothing.
 use denote.Ref.{now}
 use Rattle.words.specs.Words.{bytes4, bytes8}
-use Rattle.words.proofs.Laws.{put-four}
+use Rattle.words.proofs.Laws.{four-puts}
 use Rattle.common.specs.Header.{conversionId}
 use Rattle.writer.specs.Write.{headerBytes}
 use borrow.Author.Needs.{needs}
@@ -27,7 +27,8 @@ returns : tie.Need-returns
 unfolding headerBytes
 returns c =
     let a = c .before .before .before .before .before .before .before .before .before .before .before .before .before .before .before .before .before .args in
-    cc (put-four (bytes4 conversionId) (bytes4 0) (bytes8 (a .length)) (bytes8 (a .links)) (now (a .out)) 0)
+    four-puts (bytes4 conversionId) (bytes4 0) (bytes8 (a .length)) (bytes8 (a .links)) (now (a .out)) 0 (c .before .before .before .before .before .before .before .before .before .before .before .before .before .before .put-u32 .ensures)
+    (c .before .before .before .before .before .before .before .before .before .before .put-u322 .ensures) (c .before .before .before .before .before .before .put-u64 .ensures) (c .before .before .put-u642 .ensures)
 
 pub put-header-spec : {M : Type 1} → statement M
 put-header-spec =

@@ -1,11 +1,12 @@
 -- `writer::put_range` meets its contract. Assumes nothing.
-use mathlib.Core.Path.{_≡_, ap}
+use mathlib.Core.Path.{_≡_, ap, _∙_}
+use Prim.Native.Nat.{ℕ, _+_}
 use mathlib.Core.Bool.{true, false}
 use native.Mathlib.Omega.{arith}
 use denote.Ref.{now}
 use Rattle.floats.specs.Kept.{keptBits}
 use Rattle.words.specs.Words.{bytes8, put}
-use Rattle.words.proofs.Laws.{put-append}
+use Rattle.words.proofs.Laws.{two-puts}
 use Rattle.blocks.specs.Block.{rangeSize}
 use Rattle.writer.specs.Write.{rangeBytes}
 use borrow.Author.Needs.{needs}
@@ -35,7 +36,13 @@ returns c =
     let a = c .before .before .before .before .before .before .before .before .before .before .before .before .args in
     let b = a .block in
     let there : rangeBytes b (b .ranged) ≡ rangeBytes b true = ap (rangeBytes b) (c .before .before .before .before .before .before .before .before .before .before .if1 .taken) in
-    rw there (cc (put-append (bytes8 (keptBits (b .minimum) (b .minword))) (bytes8 (keptBits (b .maximum) (b .maxword))) (now (a .out)) (a .at)))
+    let low = keptBits (b .minimum) (b .minword) in
+    let high = keptBits (b .maximum) (b .maxword) in
+    let first = c .before .before .before .before .before .before .before .put-u64 .last .0 in
+    rw there
+    (two-puts (bytes8 low) (bytes8 high) (now (a .out)) (a .at)
+    (c .before .before .before .before .before .before .before .put-u64 .ensures ∙ ap (λ (w : ℕ). put (now (a .out)) (a .at) (bytes8 w)) (c .before .before .before .before .before .before .before .before .kept-bits .ensures))
+    (c .before .before .put-u642 .ensures ∙ ap (λ (w : ℕ). put first (a .at + 8) (bytes8 w)) (c .before .before .before .kept-bits2 .ensures)))
 
 returns-2 : tie.Need-returns-2
 unfolding put

@@ -49,7 +49,8 @@ returns-2 : tie.Need-returns-2 Inv-loop μ-loop
 returns-2 c =
     let l = c .before .before .before .before .before in
     let a = l .before .before .before .args in
-    let t : holds (a .whole) (valueAt (now (a .image)) (l .loop .at)) (valueAt (now (a .image)) (l .loop .at + 8)) (a .x) ≡ true = cc in
+    let t : holds (a .whole) (valueAt (now (a .image)) (l .loop .at)) (valueAt (now (a .image)) (l .loop .at + 8)) (a .x) ≡ true =
+    rw (sym (c .before .before .before .value-at .ensures), sym (c .before .before .value-at2 .ensures)) (sym (c .before .is-held .ensures) ∙ c .if2 .taken) in
     let f = range-hit (now (a .image)) (a .whole) (a .x) (l .loop .at) (a .n - l .loop .i * 2) (omega arith) t in
     omega arith
 
@@ -66,7 +67,8 @@ loop-again : tie.Need-loop-again Inv-loop μ-loop
 loop-again c =
     let l = c .before .before .before .before .before in
     let a = l .before .before .before .args in
-    let t : holds (a .whole) (valueAt (now (a .image)) (l .loop .at)) (valueAt (now (a .image)) (l .loop .at + 8)) (a .x) ≡ false = cc in
+    let t : holds (a .whole) (valueAt (now (a .image)) (l .loop .at)) (valueAt (now (a .image)) (l .loop .at + 8)) (a .x) ≡ false =
+    rw (sym (c .before .before .before .value-at .ensures), sym (c .before .before .value-at2 .ensures)) (sym (c .before .is-held .ensures) ∙ c .if2 .left) in
     let rest : a .n - l .loop .i * 2 - 2 ≡ a .n - (l .loop .i + 1) * 2 = omega arith in
     let f = range-miss (now (a .image)) (a .whole) (a .x) (l .loop .at) (a .n - l .loop .i * 2) (a .n - (l .loop .i + 1) * 2) (omega arith) rest t in
     (omega arith, (omega arith, omega arith))

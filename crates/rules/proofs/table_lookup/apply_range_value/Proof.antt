@@ -56,7 +56,8 @@ returns-3 : tie.Need-returns-3 Inv-loop μ-loop
 returns-3 c =
     let l = c .before .before .before .before .before .before in
     let a = l .before .before .before .before .args in
-    let t : holds (a .whole) (valueAt (now (a .image)) (l .loop .at)) (valueAt (now (a .image)) (l .loop .at + 8)) (a .x) ≡ true = cc in
+    let t : holds (a .whole) (valueAt (now (a .image)) (l .loop .at)) (valueAt (now (a .image)) (l .loop .at + 8)) (a .x) ≡ true =
+    rw (sym (c .before .before .before .before .value-at .ensures), sym (c .before .before .before .value-at2 .ensures)) (sym (c .before .before .is-held .ensures) ∙ c .before .if3 .taken) in
     c .value-at3 .ensures ∙ sym (l .loop .inv .1 .1 .1 ∙ triple-hit (now (a .image)) (a .whole) (a .x) (l .loop .at) (l .loop .left) (omega arith) t)
 
 add-at : tie.Need-add-at Inv-loop μ-loop
@@ -72,7 +73,8 @@ loop-again : tie.Need-loop-again Inv-loop μ-loop
 loop-again c =
     let l = c .before .before .before .before .before in
     let a = l .before .before .before .before .args in
-    let t : holds (a .whole) (valueAt (now (a .image)) (l .loop .at)) (valueAt (now (a .image)) (l .loop .at + 8)) (a .x) ≡ false = cc in
+    let t : holds (a .whole) (valueAt (now (a .image)) (l .loop .at)) (valueAt (now (a .image)) (l .loop .at + 8)) (a .x) ≡ false =
+    rw (sym (c .before .before .before .value-at .ensures), sym (c .before .before .value-at2 .ensures)) (sym (c .before .is-held .ensures) ∙ c .if3 .left) in
     (omega arith, (omega arith, (omega arith, l .loop .inv .1 .1 .1 ∙ triple-miss (now (a .image)) (a .whole) (a .x) (l .loop .at) (l .loop .left) (omega arith) t)))
 
 value-at-requires-4 : tie.Need-value-at-requires-4 Inv-loop μ-loop

@@ -33,7 +33,7 @@ value-at-requires-2 c κs = search needs
 returns-3 : tie.Need-returns-3
 returns-3 c =
     let a = c .before .before .before .before .before .before .args in
-    let t : le (a .x) (valueAt (now (a .image)) (a .p)) ≡ true = cc in
+    let t : le (a .x) (valueAt (now (a .image)) (a .p)) ≡ true = rw (sym (c .before .before .value-at .ensures)) (c .before .if3 .taken) in
     c .value-at2 .ensures ∙ sym (table-first (now (a .image)) (a .near) (a .x) (a .p) (a .n) (omega arith) (c .before .before .before .if2 .left) t)
 
 mul-last : tie.Need-mul-last
@@ -54,8 +54,8 @@ value-at-requires-4 c κs = search needs
 returns-4 : tie.Need-returns-4
 returns-4 c =
     let a = c .before .before .before .before .before .before .before .before .args in
-    let t : le (a .x) (valueAt (now (a .image)) (a .p)) ≡ false = cc in
-    let u : le (valueAt (now (a .image)) (a .p + (a .n - 2) * 8)) (a .x) ≡ true = cc in
+    let t : le (a .x) (valueAt (now (a .image)) (a .p)) ≡ false = rw (sym (c .before .before .before .before .value-at .ensures)) (c .before .before .before .if3 .left) in
+    let u : le (valueAt (now (a .image)) (a .p + (a .n - 2) * 8)) (a .x) ≡ true = rw (sym (c .before .before .value-at3 .ensures)) (c .before .if4 .taken) in
     c .value-at4 .ensures ∙ sym (table-last (now (a .image)) (a .near) (a .x) (a .p) (a .n) (omega arith) (c .before .before .before .before .before .if2 .left) t u)
 
 sub-apply-scan : tie.Need-sub-apply-scan
@@ -67,8 +67,8 @@ apply-scan-requires c κs = search needs
 returns-5 : tie.Need-returns-5
 returns-5 c =
     let a = c .before .before .before .before .before .before .before .before .args in
-    let t : le (a .x) (valueAt (now (a .image)) (a .p)) ≡ false = cc in
-    let u : le (valueAt (now (a .image)) (a .p + (a .n - 2) * 8)) (a .x) ≡ false = cc in
+    let t : le (a .x) (valueAt (now (a .image)) (a .p)) ≡ false = rw (sym (c .before .before .before .before .value-at .ensures)) (c .before .before .before .if3 .left) in
+    let u : le (valueAt (now (a .image)) (a .p + (a .n - 2) * 8)) (a .x) ≡ false = rw (sym (c .before .before .value-at3 .ensures)) (c .before .if4 .left) in
     c .apply-scan .ensures ∙ sym (table-scan (now (a .image)) (a .near) (a .x) (a .p) (a .n) (omega arith) (c .before .before .before .before .before .if2 .left) t u)
 
 pub apply-table-spec : {M : Type 1} → statement M
