@@ -67,6 +67,7 @@ pub struct Fields {
     pub valcount: u16,
 }
 
+// The two range fields, as floats and as the words that spelled them.
 pub struct Range {
     pub ranged: bool,
     pub minimum: f64,

@@ -41,7 +41,7 @@ pub struct Path {
 
 impl Path {
     // The blocks on the longest path: depths 0 to 20.
-    pub const LEVELS: u32 = 21;
+    pub const LEVELS: u32 = Block::DEPTH + 1;
 
     fn new() -> Path
         ensures { λ r. ⌜ r .len ≡ 0 ⌝ }
