@@ -1,236 +1,171 @@
 // What the library answers, in words.
-ghost use Prim.Native.Nat.{_<_};
+use crate::parts::find;
+use crate::parts::part;
 use blocks::Block;
-use blocks::Number;
-use blocks::Parsed;
 use common::refusal::Refusal;
 use common::refusal::Word;
 use common::text::Text;
 use writer::Written;
 
-fn hex(n: u64) {
-    io::write_all(1, b"0x");
-    io::print_hex(1, n, 1);
-}
+// The phrases by their numbers. 1 to 9 are the names of the refusals.
+const REFUSED: usize = 0;
 
-// The label and the number behind it.
-fn labelled(label: &[u8], n: u64) {
-    io::write_all(1, label);
-    io::print_decimal(1, n);
-}
+const AT: usize = 10;
 
-fn refusal_name(r: Refusal) {
-    match r {
-        Refusal::Outside(_) => io::write_all(1, b" Outside"),
-        Refusal::NotConversion(_) => io::write_all(1, b" NotConversion"),
-        Refusal::Limit(_) => io::write_all(1, b" Limit"),
-        Refusal::Short(_) => io::write_all(1, b" Short"),
-        Refusal::Deep(_) => io::write_all(1, b" Deep"),
-        Refusal::Loop(_) => io::write_all(1, b" Loop"),
-        Refusal::Formula => io::write_all(1, b" Formula"),
-        Refusal::Room => io::write_all(1, b" Room"),
-        Refusal::Count => io::write_all(1, b" Count"),
+const NONE: usize = 11;
+
+const HEX: usize = 12;
+
+const RANGE: usize = 13;
+
+const TO: usize = 14;
+
+const NO_RANGE: usize = 15;
+
+const NO_VALUES: usize = 16;
+
+const VALUES: usize = 17;
+
+const SPACE: usize = 18;
+
+pub const WHOLE: usize = 19;
+
+const NO_TEXT: usize = 20;
+
+const WROTE: usize = 21;
+
+pub const NOT: usize = 22;
+
+const BAD: usize = 23;
+
+const END: usize = 24;
+
+// Writes the phrase of this number. Each stands in 20 bytes, between the bar behind its number and the next bar.
+pub fn say(k: usize) {
+    let s: &[u8] = b"00|refused |........\
+        01| Outside|........\
+        02| NotConversion|..\
+        03| Limit|..........\
+        04| Short|..........\
+        05| Deep|...........\
+        06| Loop|...........\
+        07| Formula|........\
+        08| Room|...........\
+        09| Count|..........\
+        10| at |............\
+        11|none|............\
+        12|0x|..............\
+        13|range 0x|........\
+        14| to 0x|..........\
+        15|no range|........\
+        16|, no values|.....\
+        17|, values |.......\
+        18| |...............\
+        19|whole, |.........\
+        20|no text|.........\
+        21|wrote |..........\
+        22| not|............\
+        23|bad case: |......\
+        24|\n|...............";
+    if k < 25 {
+        let at = 20 * k + 3;
+        if at <= s.len() {
+            io::write_all(1, part(s, at, find(s, at, b'|')));
+        }
     }
-    ;
 }
 
-// Its number, its name, and its address if it carries one.
+// A command that is not understood.
+pub fn bad(line: &[u8]) {
+    say(BAD);
+    io::write_all(1, line);
+    say(END);
+}
+
+// Its number, the name that document 01 has for that, and its address if it carries one.
 pub fn refusal(r: Refusal) {
-    labelled(b"refused ", r.number() as u64);
-    refusal_name(r);
+    say(REFUSED);
+    io::print_decimal(1, r.number() as u64);
+    say(r.number() as usize);
     match r.address() {
-        Word::Bits(a) => labelled(b" at ", a),
+        Word::Bits(a) => {
+            say(AT);
+            io::print_decimal(1, a);
+        }
         Word::NoWord => {}
     }
 }
 
-pub fn word(w: Word) {
+// A link in decimal, the bits of a value in hexadecimal.
+pub fn word(w: Word, is_link: bool) {
     match w {
-        Word::Bits(n) => hex(n),
-        Word::NoWord => {
-            io::write_all(1, b"none");
+        Word::Bits(n) => {
+            if is_link {
+                io::print_decimal(1, n);
+            } else {
+                say(HEX);
+                io::print_hex(1, n, 1);
+            }
         }
+        Word::NoWord => say(NONE),
     }
 }
 
-pub fn link(w: Word) {
-    match w {
-        Word::Bits(n) => labelled(b"", n),
-        Word::NoWord => {
-            io::write_all(1, b"none");
-        }
-    }
-}
-
-pub fn number(n: Number) {
-    match n {
-        Number::Value(x) => hex(floats::to_bits(x)),
-        Number::NoValue => {
-            io::write_all(1, b"none");
-        }
-    }
-}
-
-pub fn range(b: Block) {
-    if b.ranged {
-        io::write_all(1, b"range ");
-        hex(b.minword);
-        io::write_all(1, b" to ");
-        hex(b.maxword);
-    } else {
-        io::write_all(1, b"no range");
-    }
-}
-
-fn values(image: &[u8], b: Block) {
-    if b.valcount == 0 {
-        io::write_all(1, b", no values");
-    } else {
-        io::write_all(1, b", values ");
-        word(b.value_word(image, 0));
-        io::write_all(1, b" ");
-        word(b.value_word(image, 1));
-    }
-}
-
+// The range and the first two values.
 pub fn range_and_values(image: &[u8], b: Block) {
-    range(b);
-    values(image, b);
-}
-
-// The range and the first two values, or the refusal.
-pub fn parsed(image: &[u8], p: Parsed) {
-    match p {
-        Parsed::Whole(b) => {
-            io::write_all(1, b"whole, ");
-            range_and_values(image, b);
-        }
-        Parsed::Refused(r) => refusal(r),
+    if b.ranged {
+        say(RANGE);
+        io::print_hex(1, b.minword, 1);
+        say(TO);
+        io::print_hex(1, b.maxword, 1);
+    } else {
+        say(NO_RANGE);
+    }
+    if b.valcount == 0 {
+        say(NO_VALUES);
+    } else {
+        say(VALUES);
+        word(b.value_word(image, 0), false);
+        say(SPACE);
+        word(b.value_word(image, 1), false);
     }
 }
 
-pub fn fields(b: Block) {
-    labelled(b"type ", b.kind as u64);
-    labelled(b", precision ", b.precision as u64);
-    labelled(b", flags ", b.flags as u64);
-    labelled(b", stored references ", b.refcount as u64);
-    labelled(b", stored values ", b.valcount as u64);
+// The record's fields by the numbers that the cases have for them.
+pub fn field(b: Block, k: u64) {
+    let n = match k {
+        0 => b.kind as u64,
+        1 => b.precision as u64,
+        2 => b.flags as u64,
+        3 => b.refcount as u64,
+        4 => b.valcount as u64,
+        5 => b.name,
+        6 => b.unit,
+        7 => b.comment,
+        8 => b.inverse,
+        9 => b.links,
+        _ => b.length,
+    };
+    io::print_decimal(1, n);
 }
 
-pub fn fixed(b: Block) {
-    labelled(b"name ", b.name);
-    labelled(b", unit ", b.unit);
-    labelled(b", comment ", b.comment);
-    labelled(b", inverse ", b.inverse);
-    labelled(b", ", b.links);
-    labelled(b" links, length ", b.length);
-}
-
-// The text in quotes.
+// The text that a link leads to.
 pub fn text(image: &[u8], link: u64) {
     match common::text::text_of(image, link) {
-        Text::Part(from, to) => quoted(image, from, to),
-        Text::NoText => {
-            io::write_all(1, b"no text");
+        Text::Part(from, to) => {
+            io::write_all(1, part(image, from, to));
         }
+        Text::NoText => say(NO_TEXT),
     }
 }
 
-fn quoted(image: &[u8], from: usize, to: usize) {
-    io::write_all(1, b"\"");
-    if from <= to {
-        if to <= image.len() {
-            io::write_all(1, &image[from..to]);
-        }
-    }
-    io::write_all(1, b"\"");
-}
-
+// How many bytes were written, or why none were.
 pub fn written(w: Written) {
     match w {
         Written::Bytes(n) => {
-            labelled(b"wrote ", n as u64);
-            io::write_all(1, b" bytes");
+            say(WROTE);
+            io::print_decimal(1, n as u64);
         }
         Written::Unwritten(r) => refusal(r),
-    }
-}
-
-// Whether all bytes from `from` on are still 170.
-fn is_old(out: &[u8], from: usize) -> bool {
-    for k in from..out.len() {
-        if out[k] != 170 {
-            return false;
-        }
-    }
-    true
-}
-
-fn as_before(out: &[u8], from: usize) {
-    if is_old(out, from) {
-        io::write_all(1, b" as before");
-    } else {
-        io::write_all(1, b" changed");
-    }
-}
-
-// Whether the output is as it was: all of it, or what lies behind the bytes written.
-pub fn untouched(out: &[u8], w: Written) {
-    match w {
-        Written::Bytes(n) => {
-            if n <= out.len() {
-                labelled(b", the ", (out.len() - n) as u64);
-                io::write_all(1, b" bytes behind");
-                as_before(out, n);
-            }
-        }
-        Written::Unwritten(_) => {
-            labelled(b", all ", out.len() as u64);
-            io::write_all(1, b" bytes");
-            as_before(out, 0);
-        }
-    }
-}
-
-// The word at a place, if the bytes hold it.
-pub fn word_at(s: &[u8], at: usize) {
-    if 8 <= s.len() {
-        if at <= s.len() - 8 {
-            hex(words::u64_at(s, at));
-        }
-    }
-}
-
-fn next_word(s: &[u8], at: usize) {
-    io::write_all(1, b" ");
-    word_at(s, at);
-}
-
-// The first `n` words.
-pub fn words(s: &[u8], n: usize)
-    requires { ⌜ n < 1000 ⌝ }
-{
-    for k in 0..n {
-        next_word(s, 8 * k);
-    }
-}
-
-fn is_same(a: &[u8], b: &[u8]) -> bool {
-    if a.len() != b.len() {
-        return false;
-    }
-    for k in 0..a.len() {
-        if a[k] != b[k] {
-            return false;
-        }
-    }
-    true
-}
-
-pub fn compared(a: &[u8], b: &[u8]) {
-    if is_same(a, b) {
-        io::write_all(1, b", the same bytes");
-    } else {
-        io::write_all(1, b", other bytes");
     }
 }

@@ -1,15 +1,15 @@
--- `is_old` is safe and ends: the loop stays within the bytes.
+-- `rule_cases::`find` is safe and ends: the place stays between the start and the end.` meets its contract. Assumes nothing.
+use borrow.Author.Needs.{needs}
 use Prim.Native.Nat.{_≤_, _-_}
 use lib.ListN.{length}
-use borrow.Author.Needs.{needs}
-use Rattle.block_cases.proofs.say.is_old.Statement.{statement}
-use Rattle.block_cases.proofs.say.is_old.Tie as tie
+use Rattle.block_cases.proofs.parts.find.Statement.{statement}
+use Rattle.block_cases.proofs.parts.find.Tie as tie
 
 abbrev Inv-loop : tie.InvT-loop
-Inv-loop out from k₀ k-end k = k-end ≤ length out
+Inv-loop s from byte i₀ i = (from ≤ i) × (i ≤ length s)
 
 abbrev μ-loop : tie.MeasureT-loop
-μ-loop out from k₀ k-end k = k-end - k
+μ-loop s from byte i₀ i = length s - i
 
 loop-holds : tie.Need-loop-holds Inv-loop μ-loop
 loop-holds c = search needs
@@ -20,8 +20,8 @@ shared-slice-read-if1 c = search needs
 returns : tie.Need-returns Inv-loop μ-loop
 returns c = search needs
 
-add-k : tie.Need-add-k Inv-loop μ-loop
-add-k c = search needs
+add-i : tie.Need-add-i Inv-loop μ-loop
+add-i c = search needs
 
 loop-less : tie.Need-loop-less Inv-loop μ-loop
 loop-less c = search needs
@@ -32,8 +32,8 @@ loop-again c = search needs
 returns-2 : tie.Need-returns-2 Inv-loop μ-loop
 returns-2 c = search needs
 
-pub is-old-spec : {M : Type 1} → statement M
-is-old-spec =
+pub find-spec : {M : Type 1} → statement M
+find-spec =
     tie.close
     (tie.spec
     Inv-loop
@@ -41,7 +41,7 @@ is-old-spec =
     loop-holds
     shared-slice-read-if1
     returns
-    add-k
+    add-i
     loop-less
     loop-again
     returns-2)

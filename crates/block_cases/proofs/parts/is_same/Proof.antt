@@ -1,10 +1,10 @@
--- `is_same` is safe and ends: both slices are as long as the loop.
+-- `rule_cases::`is_same` is safe and ends: both slices are as long as the loop.` meets its contract. Assumes nothing.
+use borrow.Author.Needs.{needs}
 use mathlib.Core.Path.{_≡_}
 use Prim.Native.Nat.{_≤_, _-_}
 use lib.ListN.{length}
-use borrow.Author.Needs.{needs}
-use Rattle.block_cases.proofs.say.is_same.Statement.{statement}
-use Rattle.block_cases.proofs.say.is_same.Tie as tie
+use Rattle.block_cases.proofs.parts.is_same.Statement.{statement}
+use Rattle.block_cases.proofs.parts.is_same.Tie as tie
 
 abbrev Inv-loop : tie.InvT-loop
 Inv-loop a b k₀ k-end k = (k-end ≤ length a) × (length a ≡ length b)

@@ -1,0 +1,63 @@
+-- `number` is safe and ends: what is left of the command falls.
+use Prim.Native.Nat.{_-_}
+use lib.ListN.{length}
+use borrow.Author.Needs.{needs}
+use Rattle.block_cases.proofs.command.number.Statement.{statement}
+use Rattle.block_cases.proofs.command.number.Tie as tie
+
+abbrev Inv-loop : tie.InvT-loop
+Inv-loop line at n₀ i₀ n i = Unit {0}
+
+abbrev μ-loop : tie.MeasureT-loop
+μ-loop line at n₀ i₀ n i = length line - i
+
+returns : tie.Need-returns Inv-loop μ-loop
+returns c = search needs
+
+add-i : tie.Need-add-i Inv-loop μ-loop
+add-i c = search needs
+
+loop-holds : tie.Need-loop-holds Inv-loop μ-loop
+loop-holds c = search needs
+
+shared-slice-read-if2 : tie.Need-shared-slice-read-if2 Inv-loop μ-loop
+shared-slice-read-if2 c = search needs
+
+shared-slice-read-more : tie.Need-shared-slice-read-more Inv-loop μ-loop
+shared-slice-read-more c = search needs
+
+more-requires : tie.Need-more-requires Inv-loop μ-loop
+more-requires c κs = search needs
+
+add-i-2 : tie.Need-add-i-2 Inv-loop μ-loop
+add-i-2 c = search needs
+
+loop-less : tie.Need-loop-less Inv-loop μ-loop
+loop-less c = search needs
+
+loop-again : tie.Need-loop-again Inv-loop μ-loop
+loop-again c = search needs
+
+returns-2 : tie.Need-returns-2 Inv-loop μ-loop
+returns-2 c = search needs
+
+returns-3 : tie.Need-returns-3 Inv-loop μ-loop
+returns-3 c = search needs
+
+pub number-spec : {M : Type 1} → statement M
+number-spec =
+    tie.close
+    (tie.spec
+    Inv-loop
+    μ-loop
+    returns
+    add-i
+    loop-holds
+    shared-slice-read-if2
+    shared-slice-read-more
+    more-requires
+    add-i-2
+    loop-less
+    loop-again
+    returns-2
+    returns-3)
