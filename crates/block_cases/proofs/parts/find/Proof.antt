@@ -1,4 +1,4 @@
--- `rule_cases::`find` is safe and ends: the place stays between the start and the end.` meets its contract. Assumes nothing.
+-- `find` is safe and ends: the place stays between the start and the end.
 use borrow.Author.Needs.{needs}
 use Prim.Native.Nat.{_≤_, _-_}
 use lib.ListN.{length}

@@ -1,4 +1,4 @@
--- `rule_cases::`is_same` is safe and ends: both slices are as long as the loop.` meets its contract. Assumes nothing.
+-- `is_same` is safe and ends: both slices are as long as the loop.
 use borrow.Author.Needs.{needs}
 use mathlib.Core.Path.{_≡_}
 use Prim.Native.Nat.{_≤_, _-_}
