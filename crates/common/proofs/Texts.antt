@@ -20,7 +20,7 @@ use Rattle.common.specs.declared.text.Text.the-variants.{Part, NoText}
 abbrev pub left : List ℕ → ℕ → ℕ → ℕ
 left img i to = length (untilZero (take (to - i) (drop i img)))
 
-first-byte : (img : List ℕ) (i to : ℕ) → i < to → to ≤ length img
+pub first-byte : (img : List ℕ) (i to : ℕ) → i < to → to ≤ length img
     → take (to - i) (drop i img) ≡ getD img i 0 ∷ take (to - (i + 1)) (drop (i + 1) img)
 first-byte img i to h k =
     let n : to - i ≡ suc (to - (i + 1)) = omega arith in
