@@ -1,0 +1,5 @@
+pub mod Mode
+pub mod Fits
+pub mod Plain
+pub mod Choice
+pub mod Step

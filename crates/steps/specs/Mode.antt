@@ -1,0 +1,22 @@
+-- What an application may vary (document 01 has one mode; requests [2] and [8] name the others). Assumes nothing: these are definitions.
+use Prim.Native.Nat.{ℕ, _%_, _^_}
+use Rattle.common.specs.declared.refusal.Word.{Word}
+use Rattle.common.specs.declared.refusal.Word.the-variants.{Bits, NoWord}
+use Rattle.floats.specs.Twos.{twos}
+use Rattle.rules.specs.declared.number.Value.{Value}
+use Rattle.rules.specs.declared.number.Value.the-variants.{Unsigned, Signed, Float, Text, Other}
+use Rattle.steps.specs.declared.mode.Mode.{Mode}
+use Rattle.steps.specs.declared.mode.Edition.{Edition}
+use Rattle.steps.specs.declared.mode.Edition.the-variants.{Mdf410, Mdf420}
+
+-- the integer's 64 bits, and bit groups as MDF 4.20 has them
+abbrev pub standard : Mode
+standard = record { width = 64; edition = Mdf420 }
+
+-- the low bits of an integer, signed as two's complement; no other value has any
+abbrev pub bitsOf : Mode → Value → Word
+bitsOf mode (Unsigned n) = Bits (n % 2 ^ mode .width)
+bitsOf mode (Signed n) = Bits (twos n % 2 ^ mode .width)
+bitsOf mode (Float x) = NoWord
+bitsOf mode Text = NoWord
+bitsOf mode Other = NoWord

@@ -1,0 +1,68 @@
+-- A block is opened, and its type says what is to be done with a value (document 01, "Applying"). Assumes nothing: these are definitions.
+use Prim.Native.Nat.{ℕ}
+use mathlib.Core.List.{List}
+use Rattle.common.specs.Types.{typeOf}
+use Rattle.common.specs.declared.types.ConversionType.{ConversionType}
+use Rattle.common.specs.declared.types.ConversionType.the-variants as kind
+use Rattle.common.specs.declared.refusal.Word.{Word}
+use Rattle.common.specs.declared.refusal.Word.the-variants.{Bits, NoWord}
+use Rattle.blocks.specs.Block.{opened}
+use Rattle.blocks.specs.declared.Block.{Block}
+use Rattle.blocks.specs.declared.Parsed.{Parsed}
+use Rattle.blocks.specs.declared.Parsed.the-variants.{Whole, Refused}
+use Rattle.rules.specs.Values.{values}
+use Rattle.rules.specs.Numbers.{taken}
+use Rattle.rules.specs.declared.number.Value.{Value}
+use Rattle.steps.specs.Mode.{bitsOf}
+use Rattle.steps.specs.Fits.{Fits}
+use Rattle.steps.specs.Plain.{numbered, isText, textToValue, textToText, PlainIn}
+use Rattle.steps.specs.declared.mode.Mode.{Mode}
+use Rattle.steps.specs.declared.mode.Edition.{Edition}
+use Rattle.steps.specs.declared.mode.Edition.the-variants.{Mdf410, Mdf420}
+use Rattle.steps.specs.declared.plain.Plain.the-variants as plain
+use Rattle.steps.specs.declared.step.Step.{Step}
+use Rattle.steps.specs.declared.step.Step.the-variants.{ByKey, ByRange, ByBits, Done}
+
+-- type 11 leaves all but integers unchanged
+abbrev pub groupedBits : Block → Word → Step
+groupedBits b (Bits bits) = ByBits b bits
+groupedBits b NoWord = Done plain.Unchanged
+
+-- edition 4.10 does not know type 11
+abbrev pub groupedIn : Edition → Block → Word → Step
+groupedIn Mdf410 b w = Done plain.Unchanged
+groupedIn Mdf420 b w = groupedBits b w
+
+abbrev pub grouped : Mode → Block → Value → Step
+grouped mode b v = groupedIn (mode .edition) b (bitsOf mode v)
+
+-- by its type: the types that go on to other blocks, and those that do not
+abbrev pub typed : Mode → List ℕ → List ℕ → Block → Value → ConversionType → Step
+typed mode img t b v kind.Identity = Done (numbered kind.Identity (values img (b .firstval) (b .valcount)) (taken v))
+typed mode img t b v kind.Linear = Done (numbered kind.Linear (values img (b .firstval) (b .valcount)) (taken v))
+typed mode img t b v kind.Rational = Done (numbered kind.Rational (values img (b .firstval) (b .valcount)) (taken v))
+typed mode img t b v kind.Formula = Done (numbered kind.Formula (values img (b .firstval) (b .valcount)) (taken v))
+typed mode img t b v kind.TableInterpolated = Done (numbered kind.TableInterpolated (values img (b .firstval) (b .valcount)) (taken v))
+typed mode img t b v kind.TableNearest = Done (numbered kind.TableNearest (values img (b .firstval) (b .valcount)) (taken v))
+typed mode img t b v kind.RangeToValue = Done (numbered kind.RangeToValue (values img (b .firstval) (b .valcount)) (taken v))
+typed mode img t b v kind.ValueToText = ByKey b
+typed mode img t b v kind.RangeToText = ByRange b
+typed mode img t b v kind.TextToValue = Done (textToValue img b t (isText v))
+typed mode img t b v kind.TextToText = Done (textToText img b t (isText v))
+typed mode img t b v kind.BitGroups = grouped mode b v
+typed mode img t b v (kind.Unknown n) = Done (numbered (kind.Unknown n) (values img (b .firstval) (b .valcount)) (taken v))
+
+-- a block that the image cuts off cannot be opened
+abbrev pub unlessCut : Mode → List ℕ → List ℕ → Value → Parsed → Step
+unlessCut mode img t v (Whole b) = typed mode img t b v (typeOf (b .kind))
+unlessCut mode img t v (Refused r) = Done plain.Broken
+
+unfoldable pub stepOf : Mode → List ℕ → List ℕ → ℕ → Value → Step
+stepOf mode img t a v = unlessCut mode img t v (opened img a)
+
+-- what the next step reads lies in the image
+abbrev pub StepIn : List ℕ → Step → Type 0
+StepIn img (ByKey b) = Fits img b
+StepIn img (ByRange b) = Fits img b
+StepIn img (ByBits b bits) = Fits img b
+StepIn img (Done p) = PlainIn img p
