@@ -1,0 +1,35 @@
+-- What an application answers (document 01, "What a call can say": "Number, Text with its length, Unchanged, Unknown"), and the two things that
+-- stop it. Assumes nothing: these are definitions.
+use Prim.Native.Nat.{ℕ, _-_}
+use mathlib.Core.List.{List, _++_}
+use lib.ListN.{take, drop}
+use lib.Ieee.{Float}
+use Rattle.steps.specs.declared.plain.Plain.{Plain}
+use Rattle.steps.specs.declared.plain.Plain.the-variants as plain
+
+-- a text is its bytes; a formula was met; or a block could not be opened
+pub data Answer : Type 0 where
+  number : Float → Answer
+  text : List ℕ → Answer
+  unchanged : Answer
+  unknown : Answer
+  formula : Answer
+  broken : Answer
+
+-- a part of the image is its bytes
+abbrev pub answerOf : List ℕ → Plain → Answer
+answerOf img (plain.Number x) = number x
+answerOf img (plain.Words from to) = text (take (to - from) (drop from img))
+answerOf img plain.Unchanged = unchanged
+answerOf img plain.Unknown = unknown
+answerOf img plain.Formula = formula
+answerOf img plain.Broken = broken
+
+-- a text with other bytes before it
+abbrev pub prefixed : List ℕ → Answer → Answer
+prefixed pre (number x) = number x
+prefixed pre (text t) = text (pre ++ t)
+prefixed pre unchanged = unchanged
+prefixed pre unknown = unknown
+prefixed pre formula = formula
+prefixed pre broken = broken

@@ -1,0 +1,4 @@
+pub mod Write
+pub mod Label
+pub mod Answer
+pub mod Did
