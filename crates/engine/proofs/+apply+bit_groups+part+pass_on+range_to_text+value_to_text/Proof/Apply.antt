@@ -1,0 +1,129 @@
+-- The answers of `engine::apply`. Assumes nothing.
+use mathlib.Core.Path.{_≡_, refl, sym, ap, subst, _∙_}
+use denote.Ref.{now}
+use Rattle.steps.specs.Step.{StepIn}
+use Rattle.pieces.specs.Answer.{broken}
+use Rattle.pieces.specs.Did.{saidOf, wordsOf}
+use Rattle.pieces.proofs.Laws.{none}
+use Rattle.engine.specs.Apply.{applied}
+use Rattle.engine.proofs.Levels.{level, one-more}
+use Prim.Native.Nat.{ℕ, _+_, _*_, _-_, _<_, _≤_}
+use borrow.Author.Needs.{needs}
+use native.Mathlib.Omega.{arith}
+use borrow.Fn.Kinds.{In}
+use borrow.Fn.PlainCycle.{Measures, is, falls, and}
+use Rattle.engine.proofs.apply.Reads as apply
+use Rattle.engine.proofs.apply.Kinds as apply-kinds
+use Rattle.engine.proofs.+apply+bit_groups+part+pass_on+range_to_text+value_to_text.Lts-apply as apply-lts
+use Rattle.engine.proofs.bit_groups.Reads as bit-groups
+use Rattle.engine.proofs.bit_groups.Kinds as bit-groups-kinds
+use Rattle.engine.proofs.+apply+bit_groups+part+pass_on+range_to_text+value_to_text.Lts-bit_groups as bit-groups-lts
+use Rattle.engine.proofs.part.Reads as part
+use Rattle.engine.proofs.part.Kinds as part-kinds
+use Rattle.engine.proofs.+apply+bit_groups+part+pass_on+range_to_text+value_to_text.Lts-part as part-lts
+use Rattle.engine.proofs.pass_on.Reads as pass-on
+use Rattle.engine.proofs.pass_on.Kinds as pass-on-kinds
+use Rattle.engine.proofs.+apply+bit_groups+part+pass_on+range_to_text+value_to_text.Lts-pass_on as pass-on-lts
+use Rattle.engine.proofs.range_to_text.Reads as range-to-text
+use Rattle.engine.proofs.range_to_text.Kinds as range-to-text-kinds
+use Rattle.engine.proofs.+apply+bit_groups+part+pass_on+range_to_text+value_to_text.Lts-range_to_text as range-to-text-lts
+use Rattle.engine.proofs.value_to_text.Reads as value-to-text
+use Rattle.engine.proofs.value_to_text.Kinds as value-to-text-kinds
+use Rattle.engine.proofs.+apply+bit_groups+part+pass_on+range_to_text+value_to_text.Lts-value_to_text as value-to-text-lts
+use Rattle.engine.proofs.group_count.Reads as group-count-reads
+use Rattle.engine.proofs.mask_at.Reads as mask-at-reads
+use Rattle.leads.proofs.lead.lead_at.Reads as lead-at-reads
+use Rattle.pieces.proofs.label.paste_bar.Reads as paste-bar-reads
+use Rattle.pieces.proofs.label.paste_label.Reads as paste-label-reads
+use Rattle.pieces.proofs.paste.add_visits.Reads as add-visits-reads
+use Rattle.pieces.proofs.paste.paste.Reads as paste-reads
+use Rattle.pieces.proofs.said.Outcome.counted.Reads as counted-reads
+use Rattle.pieces.proofs.said.Outcome.quiet.Reads as quiet-reads
+use Rattle.pieces.proofs.said.spell.Reads as spell-reads
+use Rattle.steps.proofs.choice.chosen_key.Reads as chosen-key-reads
+use Rattle.steps.proofs.choice.chosen_range.Reads as chosen-range-reads
+use Rattle.steps.proofs.step.step_at.Reads as step-at-reads
+use Rattle.engine.proofs.+apply+bit_groups+part+pass_on+range_to_text+value_to_text.Proof.Shared.{μ-apply, μ-bit-groups, μ-part, μ-pass-on, μ-range-to-text, μ-value-to-text, apply-at, apply-below, bit-groups-at, bit-groups-below, part-at, part-below, pass-on-at, pass-on-below, range-to-text-at, range-to-text-below, value-to-text-at, value-to-text-below, apply-calls, bit-groups-calls, part-calls, pass-on-calls, range-to-text-calls, value-to-text-calls}
+
+pub apply-quiet-requires : (t : ℕ) → apply-lts.Need-quiet-requires (apply-calls t) (apply-at t) apply.Post
+apply-quiet-requires t c κs = search needs
+
+pub apply-counted-requires : (t : ℕ) → apply-lts.Need-counted-requires (apply-calls t) (apply-at t) apply.Post
+apply-counted-requires t c κs = search needs
+
+pub apply-returns : (t : ℕ) → apply-lts.Need-returns (apply-calls t) (apply-at t) apply.Post
+unfolding applied saidOf wordsOf
+apply-returns t c = rw (c .before .before .if1 .taken)
+    (one-more {n = 0} {x = broken} (record { says = c .before .quiet .ensures .0; count = c .before .quiet .ensures .1; wrote = none _ _ _ }) (c .counted .ensures .0) (c .counted .ensures .1))
+
+pub apply-sub-below : (t : ℕ) → apply-lts.Need-sub-below (apply-calls t) (apply-at t) apply.Post
+apply-sub-below t c = search needs
+
+pub apply-step-at-requires : (t : ℕ) → apply-lts.Need-step-at-requires (apply-calls t) (apply-at t) apply.Post
+apply-step-at-requires t c κs = search needs
+
+pub apply-enum-known-b : (t : ℕ) → apply-lts.Need-enum-known-b (apply-calls t) (apply-at t) apply.Post
+apply-enum-known-b t c = search needs
+
+pub apply-value-to-text-requires : (t : ℕ) → apply-lts.Need-value-to-text-requires (apply-calls t) (apply-at t) apply.Post
+apply-value-to-text-requires t c κs = let fits = subst (StepIn (now (c .before .before .before .before .before .before .before .before .before .args .image))) (c .before .before .b .given .1) (c .before .before .before .before .step-at .ensures .1) in
+    (omega arith, (omega arith, fits))
+
+pub apply-counted-requires-2 : (t : ℕ) → apply-lts.Need-counted-requires-2 (apply-calls t) (apply-at t) apply.Post
+apply-counted-requires-2 t c κs = search needs
+
+pub apply-enum-known-b-2 : (t : ℕ) → apply-lts.Need-enum-known-b-2 (apply-calls t) (apply-at t) apply.Post
+apply-enum-known-b-2 t c = search needs
+
+pub apply-range-to-text-requires : (t : ℕ) → apply-lts.Need-range-to-text-requires (apply-calls t) (apply-at t) apply.Post
+apply-range-to-text-requires t c κs = let fits = subst (StepIn (now (c .before .before .before .before .before .before .before .before .before .args .image))) (c .before .before .b2 .given .1) (c .before .before .before .before .step-at .ensures .1) in
+    (omega arith, (omega arith, fits))
+
+pub apply-counted-requires-3 : (t : ℕ) → apply-lts.Need-counted-requires-3 (apply-calls t) (apply-at t) apply.Post
+apply-counted-requires-3 t c κs = search needs
+
+pub apply-enum-known-b-3 : (t : ℕ) → apply-lts.Need-enum-known-b-3 (apply-calls t) (apply-at t) apply.Post
+apply-enum-known-b-3 t c = search needs
+
+pub apply-bit-groups-requires : (t : ℕ) → apply-lts.Need-bit-groups-requires (apply-calls t) (apply-at t) apply.Post
+apply-bit-groups-requires t c κs = search needs
+
+pub apply-counted-requires-4 : (t : ℕ) → apply-lts.Need-counted-requires-4 (apply-calls t) (apply-at t) apply.Post
+apply-counted-requires-4 t c κs = search needs
+
+pub apply-enum-known-p : (t : ℕ) → apply-lts.Need-enum-known-p (apply-calls t) (apply-at t) apply.Post
+apply-enum-known-p t c = search needs
+
+pub apply-spell-requires : (t : ℕ) → apply-lts.Need-spell-requires (apply-calls t) (apply-at t) apply.Post
+apply-spell-requires t c κs = (omega arith, subst (StepIn (now (c .before .before .before .before .before .before .before .before .before .args .image))) (c .before .before .p .given .1) (c .before .before .before .before .step-at .ensures .1))
+
+pub apply-counted-requires-5 : (t : ℕ) → apply-lts.Need-counted-requires-5 (apply-calls t) (apply-at t) apply.Post
+apply-counted-requires-5 t c κs = search needs
+
+pub apply-same-length : (t : ℕ) → apply-lts.Need-same-length (apply-calls t) (apply-at t) apply.Post
+apply-same-length t c = search needs
+
+pub apply-returns-2 : (t : ℕ) → apply-lts.Need-returns-2 (apply-calls t) (apply-at t) apply.Post
+apply-returns-2 t c = rw (level _ _ _ _ _ _ (c .before .before .before .before .before .before .before .before .before .if1 .left), ← (c .before .before .before .before .before .before .before .before .step-at .ensures .0), c .before .before .before .before .before .before .b .given .1)
+    (one-more (c .before .before .before .value-to-text .ensures) (c .counted2 .ensures .0) (c .counted2 .ensures .1))
+
+pub apply-same-length-2 : (t : ℕ) → apply-lts.Need-same-length-2 (apply-calls t) (apply-at t) apply.Post
+apply-same-length-2 t c = search needs
+
+pub apply-returns-3 : (t : ℕ) → apply-lts.Need-returns-3 (apply-calls t) (apply-at t) apply.Post
+apply-returns-3 t c = rw (level _ _ _ _ _ _ (c .before .before .before .before .before .before .before .before .before .if1 .left), ← (c .before .before .before .before .before .before .before .before .step-at .ensures .0), c .before .before .before .before .before .before .b2 .given .1)
+    (one-more (c .before .before .before .range-to-text .ensures) (c .counted3 .ensures .0) (c .counted3 .ensures .1))
+
+pub apply-same-length-3 : (t : ℕ) → apply-lts.Need-same-length-3 (apply-calls t) (apply-at t) apply.Post
+apply-same-length-3 t c = search needs
+
+pub apply-returns-4 : (t : ℕ) → apply-lts.Need-returns-4 (apply-calls t) (apply-at t) apply.Post
+apply-returns-4 t c = rw (level _ _ _ _ _ _ (c .before .before .before .before .before .before .before .before .before .if1 .left), ← (c .before .before .before .before .before .before .before .before .step-at .ensures .0), c .before .before .before .before .before .before .b3 .given .1)
+    (one-more (c .before .before .before .bit-groups .ensures) (c .counted4 .ensures .0) (c .counted4 .ensures .1))
+
+pub apply-same-length-4 : (t : ℕ) → apply-lts.Need-same-length-4 (apply-calls t) (apply-at t) apply.Post
+apply-same-length-4 t c = search needs
+
+pub apply-returns-5 : (t : ℕ) → apply-lts.Need-returns-5 (apply-calls t) (apply-at t) apply.Post
+apply-returns-5 t c = rw (level _ _ _ _ _ _ (c .before .before .before .before .before .before .before .before .before .if1 .left), ← (c .before .before .before .before .before .before .before .before .step-at .ensures .0), c .before .before .before .before .before .before .p .given .1)
+    (one-more (c .before .before .before .spell .ensures) (c .counted5 .ensures .0) (c .counted5 .ensures .1))

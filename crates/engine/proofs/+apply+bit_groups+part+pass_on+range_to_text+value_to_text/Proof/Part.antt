@@ -1,0 +1,102 @@
+-- The answers of `engine::part`. Assumes nothing.
+use Rattle.pieces.specs.Label.{bar}
+use mathlib.Core.Path.{_≡_, refl, sym, ap, subst, _∙_}
+use denote.Ref.{now}
+use Rattle.leads.specs.Lead.{Inside}
+use Rattle.pieces.specs.Answer.{unchanged, text, prefixed}
+use Rattle.pieces.specs.Did.{saidOf, wordsOf}
+use Rattle.pieces.proofs.Laws.{none, then}
+use Rattle.pieces.proofs.Answers.{put-did, prefixed-did}
+use Rattle.engine.proofs.Levels.{labelled-did}
+use Prim.Native.Nat.{ℕ, _+_, _*_, _-_, _<_, _≤_}
+use borrow.Author.Needs.{needs}
+use native.Mathlib.Omega.{arith}
+use borrow.Fn.Kinds.{In}
+use borrow.Fn.PlainCycle.{Measures, is, falls, and}
+use Rattle.engine.proofs.apply.Reads as apply
+use Rattle.engine.proofs.apply.Kinds as apply-kinds
+use Rattle.engine.proofs.+apply+bit_groups+part+pass_on+range_to_text+value_to_text.Lts-apply as apply-lts
+use Rattle.engine.proofs.bit_groups.Reads as bit-groups
+use Rattle.engine.proofs.bit_groups.Kinds as bit-groups-kinds
+use Rattle.engine.proofs.+apply+bit_groups+part+pass_on+range_to_text+value_to_text.Lts-bit_groups as bit-groups-lts
+use Rattle.engine.proofs.part.Reads as part
+use Rattle.engine.proofs.part.Kinds as part-kinds
+use Rattle.engine.proofs.+apply+bit_groups+part+pass_on+range_to_text+value_to_text.Lts-part as part-lts
+use Rattle.engine.proofs.pass_on.Reads as pass-on
+use Rattle.engine.proofs.pass_on.Kinds as pass-on-kinds
+use Rattle.engine.proofs.+apply+bit_groups+part+pass_on+range_to_text+value_to_text.Lts-pass_on as pass-on-lts
+use Rattle.engine.proofs.range_to_text.Reads as range-to-text
+use Rattle.engine.proofs.range_to_text.Kinds as range-to-text-kinds
+use Rattle.engine.proofs.+apply+bit_groups+part+pass_on+range_to_text+value_to_text.Lts-range_to_text as range-to-text-lts
+use Rattle.engine.proofs.value_to_text.Reads as value-to-text
+use Rattle.engine.proofs.value_to_text.Kinds as value-to-text-kinds
+use Rattle.engine.proofs.+apply+bit_groups+part+pass_on+range_to_text+value_to_text.Lts-value_to_text as value-to-text-lts
+use Rattle.engine.proofs.group_count.Reads as group-count-reads
+use Rattle.engine.proofs.mask_at.Reads as mask-at-reads
+use Rattle.leads.proofs.lead.lead_at.Reads as lead-at-reads
+use Rattle.pieces.proofs.label.paste_bar.Reads as paste-bar-reads
+use Rattle.pieces.proofs.label.paste_label.Reads as paste-label-reads
+use Rattle.pieces.proofs.paste.add_visits.Reads as add-visits-reads
+use Rattle.pieces.proofs.paste.paste.Reads as paste-reads
+use Rattle.pieces.proofs.said.Outcome.counted.Reads as counted-reads
+use Rattle.pieces.proofs.said.Outcome.quiet.Reads as quiet-reads
+use Rattle.pieces.proofs.said.spell.Reads as spell-reads
+use Rattle.steps.proofs.choice.chosen_key.Reads as chosen-key-reads
+use Rattle.steps.proofs.choice.chosen_range.Reads as chosen-range-reads
+use Rattle.steps.proofs.step.step_at.Reads as step-at-reads
+use Rattle.engine.proofs.+apply+bit_groups+part+pass_on+range_to_text+value_to_text.Proof.Shared.{μ-apply, μ-bit-groups, μ-part, μ-pass-on, μ-range-to-text, μ-value-to-text, apply-at, apply-below, bit-groups-at, bit-groups-below, part-at, part-below, pass-on-at, pass-on-below, range-to-text-at, range-to-text-below, value-to-text-at, value-to-text-below, apply-calls, bit-groups-calls, part-calls, pass-on-calls, range-to-text-calls, value-to-text-calls}
+
+pub part-enum-known-lead : (t : ℕ) → part-lts.Need-enum-known-lead (part-calls t) (part-at t) part.Post
+part-enum-known-lead t c = search needs
+
+pub part-paste-bar-requires : (t : ℕ) → part-lts.Need-paste-bar-requires (part-calls t) (part-at t) part.Post
+part-paste-bar-requires t c κs = search needs
+
+pub part-paste-requires : (t : ℕ) → part-lts.Need-paste-requires (part-calls t) (part-at t) part.Post
+part-paste-requires t c κs = let lies = subst (Inside (now (c .before .before .before .before .before .before .before .before .before .before .before .args .image))) (c .before .before .before .before .before .before .lead .given .1) (c .before .before .before .before .before .before .before .before .before .before .before .pre .1 .1) in
+    (omega (arith, c .before .before .before .paste-bar .ensures .wrote .same), lies .0, lies .1)
+
+pub part-quiet-requires : (t : ℕ) → part-lts.Need-quiet-requires (part-calls t) (part-at t) part.Post
+part-quiet-requires t c κs = search needs
+
+pub part-enum-known-lead-2 : (t : ℕ) → part-lts.Need-enum-known-lead-2 (part-calls t) (part-at t) part.Post
+part-enum-known-lead-2 t c = search needs
+
+pub part-paste-label-requires : (t : ℕ) → part-lts.Need-paste-label-requires (part-calls t) (part-at t) part.Post
+part-paste-label-requires t c κs = (omega arith, subst (Inside (now (c .before .before .before .before .before .before .before .args .image))) (c .before .before .lead2 .given .1) (c .before .before .before .before .before .before .before .pre .1 .1))
+
+pub part-apply-requires : (t : ℕ) → part-lts.Need-apply-requires (part-calls t) (part-at t) part.Post
+part-apply-requires t c κs = (omega arith, (omega (arith, c .before .before .before .paste-label .ensures .wrote .same), subst (Inside (now (c .before .before .before .before .before .before .before .before .before .before .before .args .image))) (c .before .before .before .before .before .before .lead2 .given .1) (c .before .before .before .before .before .before .before .before .before .before .before .pre .1 .1)))
+
+pub part-enum-told : (t : ℕ) → part-lts.Need-enum-told (part-calls t) (part-at t) part.Post
+part-enum-told t c = search needs
+
+pub part-quiet-requires-2 : (t : ℕ) → part-lts.Need-quiet-requires-2 (part-calls t) (part-at t) part.Post
+part-quiet-requires-2 t c κs = search needs
+
+pub part-enum-told-2 : (t : ℕ) → part-lts.Need-enum-told-2 (part-calls t) (part-at t) part.Post
+part-enum-told-2 t c = search needs
+
+pub part-quiet-requires-3 : (t : ℕ) → part-lts.Need-quiet-requires-3 (part-calls t) (part-at t) part.Post
+part-quiet-requires-3 t c κs = search needs
+
+pub part-same-length : (t : ℕ) → part-lts.Need-same-length (part-calls t) (part-at t) part.Post
+part-same-length t c = search needs
+
+pub part-returns : (t : ℕ) → part-lts.Need-returns (part-calls t) (part-at t) part.Post
+part-returns t c = rw (c .before .before .before .before .before .before .before .before .before .before .lead .given .1)
+    (put-did (c .quiet .ensures .0) (c .quiet .ensures .1) (then (omega arith) (c .before .before .before .before .before .before .before .paste-bar .ensures) (c .before .before .before .paste .ensures)))
+
+pub part-same-length-2 : (t : ℕ) → part-lts.Need-same-length-2 (part-calls t) (part-at t) part.Post
+part-same-length-2 t c = search needs
+
+pub part-returns-2 : (t : ℕ) → part-lts.Need-returns-2 (part-calls t) (part-at t) part.Post
+part-returns-2 t c = rw (c .before .before .before .before .before .before .before .before .before .lead2 .given .1) (labelled-did (bar (c .before .before .before .before .before .before .before .before .before .before .before .before .before .before .args .started)) _ _ (omega arith) (c .before .before .before .before .before .before .paste-label .ensures) (c .before .before .apply .ensures))
+
+pub part-returns-3 : (t : ℕ) → part-lts.Need-returns-3 (part-calls t) (part-at t) part.Post
+unfolding saidOf wordsOf
+part-returns-3 t c = rw (c .before .enum-told .given .1) (record { says = c .quiet2 .ensures .0; count = c .quiet2 .ensures .1; wrote = none _ _ _ })
+
+pub part-returns-4 : (t : ℕ) → part-lts.Need-returns-4 (part-calls t) (part-at t) part.Post
+unfolding saidOf wordsOf
+part-returns-4 t c = rw (c .before .enum-told2 .given .1) (record { says = c .quiet3 .ensures .0; count = c .quiet3 .ensures .1; wrote = none _ _ _ })

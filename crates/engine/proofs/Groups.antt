@@ -1,0 +1,128 @@
+-- Bit groups, one after the other: what the loop knows after some groups, and what one group more adds. Assumes nothing.
+use mathlib.Core.Path.{_≡_, refl, sym, ap, subst, _∙_}
+use mathlib.Core.Bool.{Bool, true, false}
+use mathlib.Core.List.{List, [], _∷_, _++_, append-nil, append-assoc}
+use Prim.Native.Nat.{ℕ, zero, suc, _+_, _-_, _≤_, _<_}
+use native.Mathlib.Nat.{add-zero, add-suc}
+use native.Mathlib.Numerals.{add-one}
+use native.Mathlib.Omega.{arith}
+use lib.Bits.{bitAnd}
+use lib.ListN.{length, length-append}
+use Rattle.blocks.specs.declared.Block.{Block}
+use Rattle.leads.specs.Lead.{leadAt}
+use Rattle.leads.specs.declared.lead.Lead.{Lead}
+use Rattle.rules.specs.declared.number.Value.{Value}
+use Rattle.pieces.specs.Write.{sat, sat32, Wrote, Put}
+use Rattle.pieces.specs.Answer.{Answer, number, text, unchanged, unknown, formula, broken, prefixed}
+use Rattle.pieces.specs.Label.{bar}
+use Rattle.pieces.specs.Did.{Did, saidOf, wordsOf}
+use Rattle.pieces.specs.declared.said.Said.{Said}
+use Rattle.pieces.specs.declared.said.Said.the-variants as said
+use Rattle.pieces.specs.declared.said.Outcome.{Outcome}
+use Rattle.pieces.proofs.Laws.{forget, next, then}
+use Rattle.engine.specs.Apply.{Ap, maskAt, groupCount, partOf, Groups, going, halted, grown, more, groups, joined, gathered, bitGroups, Does, afterBar}
+
+-- ---- parts joined
+abbrev pub some : List (List ℕ) → Bool
+some [] = false
+some (p ∷ ps) = true
+
+pub join-more : (ps : List (List ℕ)) (t : List ℕ) → joined (ps ++ (t ∷ [])) ≡ joined ps ++ (bar (some ps) ++ t)
+unfolding joined bar
+join-more [] t = refl
+join-more (p ∷ []) t = refl
+join-more (p ∷ q ∷ ps) t =
+    ap (λ (l : List ℕ). p ++ (124 ∷ l)) (join-more (q ∷ ps) t) ∙ sym (append-assoc p (124 ∷ joined (q ∷ ps)) (124 ∷ t))
+
+some-more : (ps : List (List ℕ)) (t : List ℕ) → some (ps ++ (t ∷ [])) ≡ true
+some-more [] t = refl
+some-more (p ∷ ps) t = refl
+
+-- ---- what the loop knows
+pub record Sofar (G : Groups) (o p : List ℕ) (pos lim e : ℕ) (started : Bool) (m : ℕ) : Type 0 where
+  pub parts : List (List ℕ)
+  pub begun : List ℕ
+  pub is : G ≡ going parts begun
+  pub first : started ≡ some parts
+  pub count : m ≡ sat32 (length begun)
+  pub put : Put o p pos lim (joined parts) e
+
+pub record Halted (x : Answer) (G : Groups) (o p : List ℕ) (pos lim m : ℕ) : Type 0 where
+  pub begun : List ℕ
+  pub is : G ≡ halted x begun
+  pub count : m ≡ sat32 (length begun)
+  pub wrote : Wrote o p pos lim []
+
+-- after one group more, by that group's word
+abbrev pub Grown : Said → Groups → List ℕ → List ℕ → ℕ → ℕ → ℕ → Bool → ℕ → Type 0
+Grown (said.Number x) G o p pos lim e started m = Sofar G o p pos lim e started m
+Grown (said.Text f) G o p pos lim e started m = Sofar G o p pos lim f true m
+Grown said.Unchanged G o p pos lim e started m = Sofar G o p pos lim e started m
+Grown said.Unknown G o p pos lim e started m = Sofar G o p pos lim e started m
+Grown said.Formula G o p pos lim e started m = Halted formula G o p pos lim m
+Grown said.Broken G o p pos lim e started m = Halted broken G o p pos lim m
+
+-- what was put stays where nothing more is
+keep : {o p q t : List ℕ} {pos lim e : ℕ} → lim ≤ 18446744073709551615 → Put o p pos lim t e → Wrote p q e lim [] → Put o q pos lim t e
+keep {t = t} fits x w = record { end = x .end; wrote = rw append-nil at (next _ _ _ _ _ _ t [] fits (x .end) (x .wrote) w) }
+
+both : (vs ws : List ℕ) (m u : ℕ) → m ≡ sat32 (length vs) → u ≡ sat32 (length ws) → sat32 (m + u) ≡ sat32 (length (vs ++ ws))
+both vs ws m u k l = simp length-append (omega arith)
+
+module _ (ps : List (List ℕ)) (vs ws : List ℕ) (m u : ℕ) {o p q : List ℕ} {pos lim e : ℕ} (started : Bool) (fits : lim ≤ 18446744073709551615)
+    (put : Put o p pos lim (joined ps) e) (first : started ≡ some ps) (k : m ≡ sat32 (length vs)) (l : u ≡ sat32 (length ws)) where
+  stay : (G : Groups) → G ≡ going ps (vs ++ ws) → Wrote p q e lim [] → Sofar G o q pos lim e started (sat32 (m + u))
+  stay G is w = record { parts = ps; begun = vs ++ ws; is = is; first = first; count = both vs ws m u k l; put = keep fits put w }
+
+  halt : (x : Answer) → Wrote p q e lim [] → Halted x (halted x (vs ++ ws)) o q pos lim (sat32 (m + u))
+  halt x w = record { begun = vs ++ ws; is = refl; count = both vs ws m u k l; wrote = forget (keep fits put w .wrote) }
+
+  pub grow : (x : Answer) → Wrote p q e lim (wordsOf (prefixed (bar started) x)) → Grown (saidOf e (prefixed (bar started) x)) (grown ps (vs ++ ws) x) o q pos lim e started (sat32 (m + u))
+  unfolding saidOf wordsOf
+  grow (number x) w = stay _ refl w
+  grow (text t) w = record {
+    parts = ps ++ (t ∷ []);
+    begun = vs ++ ws;
+    is = refl;
+    first = sym (some-more ps t);
+    count = both vs ws m u k l;
+    put = rw (join-more ps t, ← first) (then fits put (record { end = refl; wrote = w }));
+  }
+  grow unchanged w = stay _ refl w
+  grow unknown w = stay _ refl w
+  grow formula w = halt formula w
+  grow broken w = halt broken w
+
+module _ (nested : ℕ → Value → Ap) (img : List ℕ) (b : Block) (bits : ℕ) where
+  pub start : (o : List ℕ) (pos lim : ℕ) → Put o o pos lim [] pos → Sofar (groups nested img b bits 0) o o pos lim pos false 0
+  unfolding groups joined
+  start o pos lim x = record { parts = []; begun = []; is = refl; first = refl; count = refl; put = x }
+
+  pub turn : (i m w : ℕ) (l : Lead) (x : Said) {o p q : List ℕ} {pos lim e k : ℕ} {started : Bool} {y : Outcome} → lim ≤ 18446744073709551615
+      → Sofar (groups nested img b bits i) o p pos lim e started k → l ≡ leadAt img b i → w ≡ maskAt img b i
+      → Does p q e lim (afterBar started (partOf nested img l (bitAnd bits w))) y → m ≡ sat32 (k + y .visits) → y .said ≡ x
+      → Grown x (groups nested img b bits (i + 1)) o q pos lim e started m
+  unfolding groups
+  turn i m w l x {k = k} {started = started} {y = y} fits at hl hw did hm told =
+      let part = partOf nested img l (bitAnd bits w) in
+      rw (← told, did .says, hm, add-one, at .is, ← hl, ← hw)
+      (grow (at .parts) (at .begun) (part .begun) k (y .visits) started fits (at .put) (at .first) (at .count) (did .count) (part .says) (did .wrote))
+
+  stays : (i j : ℕ) (x : Answer) (vs : List ℕ) → groups nested img b bits i ≡ halted x vs → groups nested img b bits (i + j) ≡ halted x vs
+  unfolding groups
+  stays i zero x vs h = rw (add-zero, h)
+  stays i (suc j) x vs h = rw (add-suc, stays i j x vs h)
+
+  -- the loop is left: at a stop, or at its end
+  pub stop : (i n : ℕ) (x : Answer) {o p : List ℕ} {pos lim m : ℕ} {r : Outcome} → i < n → n ≡ groupCount b → Halted x (groups nested img b bits (i + 1)) o p pos lim m
+      → r .said ≡ saidOf pos x → r .visits ≡ m → wordsOf x ≡ [] → Does o p pos lim (bitGroups nested img b bits) r
+  unfolding bitGroups
+  stop i n x h e at told count none =
+      let q : i + 1 + (n - (i + 1)) ≡ n = omega arith in
+      rw (← e, ← q, stays (i + 1) (n - (i + 1)) x (at .begun) (at .is))
+      (record { says = told; count = count ∙ at .count; wrote = rw none (at .wrote) })
+
+  pub finish : (i n : ℕ) {o p : List ℕ} {pos lim e m : ℕ} {started : Bool} → i ≡ n → n ≡ groupCount b → Sofar (groups nested img b bits i) o p pos lim e started m
+      → Does o p pos lim (bitGroups nested img b bits) (record { said = said.Text e; visits = m })
+  unfolding bitGroups saidOf wordsOf
+  finish i n h e at = rw (← e, ← h, at .is) (record { says = ap said.Text (at .put .end); count = at .count; wrote = at .put .wrote })
