@@ -1,0 +1,48 @@
+-- What the second entry of type 10 shows (document 01: "it shows a part of the image, or the whole question. The question is shown unless the
+-- check accepts, the root has type 10 and a text is chosen."). Assumes nothing: these are definitions.
+use Prim.Native.Nat.{ℕ, _-_, _≤_}
+use mathlib.Core.Bool.{cond}
+use mathlib.Core.List.{List}
+use lib.Dec.{eqb}
+use lib.ListN.{length, take, drop}
+use Rattle.blocks.specs.Block.{parsed}
+use Rattle.blocks.specs.declared.Parsed.{Parsed}
+use Rattle.blocks.specs.declared.Parsed.the-variants.{Whole, Refused}
+use Rattle.leads.specs.Keys.{translated}
+use Rattle.leads.specs.declared.lead.Lead.{Lead}
+use Rattle.leads.specs.declared.lead.Lead.the-variants.{Words, Nested, Nil, Elsewhere}
+use Rattle.tree.specs.Walk.{checked}
+use Rattle.tree.specs.declared.Checked.{Checked}
+use Rattle.tree.specs.declared.Checked.the-variants.{Accepted, Unsound}
+use Rattle.conversion.specs.declared.shown.Shown.{Shown}
+use Rattle.conversion.specs.declared.shown.Shown.the-variants.{Part, Question}
+
+-- a text is chosen
+abbrev pub ofLead : Lead → Shown
+ofLead (Words from to) = Part from to
+ofLead (Nested a) = Question
+ofLead Nil = Question
+ofLead Elsewhere = Question
+
+-- the root has type 10
+abbrev pub ofBlock : List ℕ → List ℕ → Parsed → Shown
+ofBlock img question (Whole b) = cond (eqb (b .kind) 10) (ofLead (translated img b question)) Question
+ofBlock img question (Refused r) = Question
+
+-- the check accepts
+abbrev pub ofCheck : Checked → Shown → Shown
+ofCheck (Accepted n) s = s
+ofCheck (Unsound r) s = Question
+
+unfoldable pub shownFor : List ℕ → ℕ → ℕ → List ℕ → Shown
+shownFor img a limit question = ofCheck (checked img a limit) (ofBlock img question (parsed img a))
+
+-- the bytes that are shown
+abbrev pub showing : List ℕ → List ℕ → Shown → List ℕ
+showing img question (Part from to) = take (to - from) (drop from img)
+showing img question Question = question
+
+-- a part lies in the image
+abbrev pub Within : List ℕ → Shown → Type 0
+Within img (Part from to) = (from ≤ to) × (to ≤ length img)
+Within img Question = Unit {0}
