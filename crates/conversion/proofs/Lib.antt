@@ -6,3 +6,4 @@ pub mod Demand
 pub mod Showing
 pub mod Shows
 pub mod Settling
+pub mod PCases

@@ -1,3 +1,4 @@
 pub mod Entry
 pub mod Shown
 pub mod Reach
+pub mod Cases
