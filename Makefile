@@ -9,9 +9,9 @@ test: kit
 
 # The program is proved before it is run; what the prover says is kept in target/demo.log.
 demo: kit
-	@mkdir -p target; echo "Proving the program before it runs: a minute or two the first time."
-	@rt check show_blocks > target/demo.log 2>&1 || { tail -n 20 target/demo.log; exit 1; }
-	@target/bin/show_blocks < crates/show_blocks/stdin
+	@mkdir -p target; echo "Proving the program before it runs: some minutes the first time."
+	@rt check show_values > target/demo.log 2>&1 || { tail -n 20 target/demo.log; exit 1; }
+	@target/bin/show_values < crates/show_values/stdin
 
 # Says so where another kit is found than the one that the project was proved with.
 kit:

@@ -1,15 +1,22 @@
 #!/usr/bin/env python3
-"""Makes the sample image: the conversions of a tractor's gateway.
+"""Makes the sample image: the conversions of a tractor's gateway, and values to convert by them.
 
-It writes crates/show_blocks/stdin, which the program show_blocks lists. It is written from document 01 and the MDF standard alone, with
-nothing but Python's own library, and uses none of the project's own code, so that the image says nothing about it.
+It writes crates/show_blocks/stdin, which the program show_blocks lists, and crates/show_values/stdin, whose values the program show_values
+converts. It is written from document 01 and the MDF standard alone, with nothing but Python's own library, and uses none of the project's own
+code, so that the image says nothing about it.
 
-The image is 64 bytes of identification, then ##TX, ##MD and ##CC blocks one behind the other, each at a multiple of 8.
+The image is 64 bytes of identification, then ##TX, ##MD and ##CC blocks one behind the other, each at a multiple of 8. For show_values some
+blocks more stand behind those of show_blocks, and requests before the image, numbers little-endian: how many in 8 bytes, then 64 bytes for each.
+A request has eight bytes each for the conversion's address, the kind of the value (its place in KINDS), the value's 64 bits or the length of a
+text, the visit limit, and the room for a text answer; then the text, filled up with zeros to 24 bytes.
 """
 import os
 import struct
 
+KINDS = ("unsigned", "signed", "float", "text", "other")
+
 blocks = []  # (label, size in bytes, function of the addresses that gives the bytes)
+requests = []  # (label or address, bytes behind the address)
 
 
 def padded(data):
@@ -47,6 +54,15 @@ def conversion(label, kind, name="", unit="", comment="", inverse="", refs=(), v
     blocks.append((label, size, data))
 
 
+def request(where, kind, value=0, limit=4096, room=4096):
+    """A value for the conversion with a label, or at an address. Limit and room are the usual ones if they are not given."""
+    text = value.encode() if kind == "text" else b""
+    bits = {"unsigned": "<Q", "signed": "<q", "float": "<d", "text": "<Q", "other": "<Q"}[kind]
+    assert len(text) <= 24 and room <= 4096
+    body = struct.pack("<Q", KINDS.index(kind)) + struct.pack(bits, len(text) if kind == "text" else value)
+    requests.append((where, body + struct.pack("<QQ", limit, room) + text.ljust(24, b"\0")))
+
+
 for text in ("Engine hours", "h", "Torque", "Nm", "at the rear shaft", "Raw torque", "Fuel rate", "l/h", "Slip", "%", "100*(X1-0.3)/X1"):
     plain(b"##TX", text)
 conversion("identity", 0, name="Engine hours", unit="h")
@@ -81,19 +97,94 @@ conversion("vendor", 42, name="Vendor scale", comment="<CCcomment/>", refs=("", 
 # A link count that no image holds: this one is refused.
 conversion("damaged", 1, values=(0.0, 1.0), links=2 ** 60)
 
+# Up to here the image of show_blocks.
+listed = len(blocks)
+
+for text in ("Coolant", "Beacon colour", "amber", "blue", "Maker scale", "Seat switch"):
+    plain(b"##TX", text)
+# Two references to one block: it is visited twice, and is no loop.
+conversion("coolant", 8, name="Coolant", unit="\u00b0C", refs=("oil", "oil"), values=(0.0, 100.0, 200.0, 300.0))
+# No value for the second text, and no default.
+conversion("beacon", 9, name="Beacon colour", refs=("amber", "blue"), values=(1.0,))
+conversion("maker", 42, name="Maker scale", values=(2.0,))
+# A loop of two.
+conversion("seat", 7, name="Seat switch", refs=("seat again",), values=(1.0,))
+conversion("seat again", 7, refs=("seat",), values=(1.0,))
+
+request("linear", "signed", -3)
+request("linear", "unsigned", 8)
+request("linear", "float", 2.5)
+request("linear", "text", "no signal")
+request("linear", "other")
+request("identity", "unsigned", 1234)
+request("rational", "unsigned", 4)
+request("rational", "unsigned", 0)
+request("formula", "unsigned", 5)
+request("formula", "text", "no signal")
+request("interpolated", "unsigned", 15)
+request("interpolated", "float", 12.5)
+request("interpolated", "signed", -1)
+request("nearest", "unsigned", 15)
+request("nearest", "unsigned", 16)
+# An upper bound belongs to its range for an integer, and not for a float.
+request("ranges", "unsigned", 10)
+request("ranges", "float", 10.0)
+request("ranges", "float", 20.0)
+request("gear", "unsigned", 2)
+request("gear", "unsigned", 3)
+request("oil text", "unsigned", 10)
+request("oil text", "float", 10.0)
+request("oil text", "unsigned", 100)
+request("coolant", "unsigned", 50)
+request("coolant", "signed", -50)
+request("lamp", "text", "on")
+request("lamp", "text", "blink")
+request("lamp", "unsigned", 1)
+request("beacon", "text", "amber")
+request("beacon", "text", "blue")
+request("fault", "text", "E1")
+request("fault", "text", "E9")
+request("fault", "unsigned", 1)
+request("groups", "unsigned", 6)
+request("groups", "unsigned", 0)
+request("groups", "signed", -2)
+request("groups", "float", 6.0)
+request("groups", "unsigned", 6, room=14)
+request("groups", "unsigned", 6, room=13)
+request("groups", "unsigned", 6, limit=2)
+request("groups", "unsigned", 6, limit=1)
+request("maker", "unsigned", 7)
+request("vendor", "unsigned", 7)
+request("seat", "unsigned", 1)
+# The text "Engine hours", and no byte of the image.
+request(64, "unsigned", 1)
+request(1000000, "unsigned", 1)
+
 places, at = {}, 64
 for label, size, _ in blocks:
     assert label not in places, label
     places[label] = at
     at += size + -size % 8
 
-image = b"MDF     4.20    rattle  ".ljust(28, b"\0") + struct.pack("<H", 420)
-image = image.ljust(64, b"\0")
-for label, size, data in blocks:
-    image += padded(data(places))
-assert len(image) == at <= 65536
 
-target = os.path.join(os.path.dirname(os.path.abspath(__file__)), "..", "crates", "show_blocks", "stdin")
-with open(target, "wb") as out:
-    out.write(image)
-print(len(image), "bytes,", len(blocks), "blocks")
+def image_of(some):
+    image = b"MDF     4.20    rattle  ".ljust(28, b"\0") + struct.pack("<H", 420)
+    image = image.ljust(64, b"\0")
+    for label, size, data in some:
+        image += padded(data(places))
+    return image
+
+
+def write(program, data):
+    assert len(data) <= 65535
+    target = os.path.join(os.path.dirname(os.path.abspath(__file__)), "..", "crates", program, "stdin")
+    with open(target, "wb") as out:
+        out.write(data)
+    print(program, "reads", len(data), "bytes")
+
+
+write("show_blocks", image_of(blocks[:listed]))
+asked = struct.pack("<Q", len(requests))
+for where, body in requests:
+    asked += struct.pack("<Q", places.get(where, where)) + body
+write("show_values", asked + image_of(blocks))

@@ -7,3 +7,4 @@ pub mod Showing
 pub mod Shows
 pub mod Settling
 pub mod PCases
+pub mod Refusals

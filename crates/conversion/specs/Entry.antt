@@ -5,8 +5,11 @@ use mathlib.Core.Bool.{cond}
 use mathlib.Core.List.{List, _++_}
 use lib.Dec.{leb}
 use lib.ListN.{length, drop}
+use Rattle.common.specs.Refusal.{numberOf, addressOf}
 use Rattle.common.specs.declared.refusal.Refusal.{Refusal}
 use Rattle.common.specs.declared.refusal.Refusal.the-variants as refusal
+use Rattle.common.specs.declared.refusal.Word.{Word}
+use Rattle.common.specs.declared.refusal.Word.the-variants.{NoWord}
 use Rattle.rules.specs.declared.number.Value.{Value}
 use Rattle.steps.specs.declared.mode.Mode.{Mode}
 use Rattle.tree.specs.Walk.{checked}
@@ -17,6 +20,22 @@ use Rattle.engine.specs.Apply.{Ap, applied}
 use Rattle.conversion.specs.declared.logic.Answer.{Answer}
 use Rattle.conversion.specs.declared.logic.Answer.the-variants.{Number, Text, Unchanged, Unknown, Refused}
 use Rattle.conversion.specs.declared.logic.Applied.{Applied}
+
+-- document 01's number of a refusal; 0 for an answer that is none
+abbrev pub refusalOf : Answer → ℕ
+refusalOf (Number x) = 0
+refusalOf (Text n) = 0
+refusalOf Unchanged = 0
+refusalOf Unknown = 0
+refusalOf (Refused r) = numberOf r
+
+-- the address that refusals 1 to 6 carry
+abbrev pub addressIn : Answer → Word
+addressIn (Number x) = NoWord
+addressIn (Text n) = NoWord
+addressIn Unchanged = NoWord
+addressIn Unknown = NoWord
+addressIn (Refused r) = addressOf r
 
 -- the answer, with N and M, and what the lent output holds
 pub record Call : Type 0 where

@@ -3,6 +3,7 @@
 //
 // A text is measured first and written in a second pass, so that a refusal leaves the output as it was.
 use common::refusal::Refusal;
+use common::refusal::Word;
 use engine::apply as apply_block;
 use pieces::said::Said;
 use rules::number::Value;
@@ -14,7 +15,7 @@ ghost use Rattle.tree.specs.Walk.{checked as checkedTree};
 ghost use Rattle.tree.specs.declared.Checked.the-variants.{Accepted};
 ghost use Rattle.steps.specs.Mode.{standard};
 ghost use Rattle.engine.specs.Apply.{applied as appliedTo};
-ghost use Rattle.conversion.specs.Entry.{call, settled, applying};
+ghost use Rattle.conversion.specs.Entry.{refusalOf, addressIn, call, settled, applying};
 
 // Document 01's answers.
 pub enum Answer {
@@ -24,6 +25,28 @@ pub enum Answer {
     Unchanged,
     Unknown,
     Refused(Refusal),
+}
+
+impl Answer {
+    // Document 01's number of the refusal; 0 where nothing is refused.
+    pub fn refusal(self) -> u8
+        ensures { λ r. ⌜ r ≡ refusalOf self ⌝ }
+    {
+        match self {
+            Answer::Refused(refusal) => refusal.number(),
+            _ => 0,
+        }
+    }
+
+    // The address that refusals 1 to 6 carry.
+    pub fn address(self) -> Word
+        ensures { λ r. ⌜ r ≡ addressIn self ⌝ }
+    {
+        match self {
+            Answer::Refused(refusal) => refusal.address(),
+            _ => Word::NoWord,
+        }
+    }
 }
 
 // The answer with the visits of the check, N, and of the application, M. Both are 0 where the check refuses.

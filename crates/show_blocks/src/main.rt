@@ -1,10 +1,10 @@
 // Lists the conversions of an MDF image in words. The image comes on standard input, at most 65536 bytes of it.
 //
 // The blocks stand one behind the other, from byte 64 on: an MDF file begins with 64 bytes of identification.
-mod decimal;
 mod show;
 
 use common::header::Header;
+use print::text::labelled;
 ghost use Prim.Native.Nat.{_≤_, _<_};
 ghost use lib.ListN.{length};
 
@@ -18,7 +18,7 @@ fn rounded_up(n: usize) -> usize
 
 // The line that ends a listing before the image does.
 fn stop(at: usize, why: &[u8]) {
-    show::labelled(b"The listing ends at ", at as u64);
+    labelled(b"The listing ends at ", at as u64);
     io::write_all(1, why);
 }
 

@@ -1,5 +1,4 @@
 // A ##CC block in words.
-use crate::decimal;
 use blocks::Block;
 use blocks::Number;
 use blocks::Parsed;
@@ -7,12 +6,12 @@ use common::refusal::Refusal;
 use common::refusal::Word;
 use common::text::Text;
 use common::types::ConversionType;
+use print::decimal;
+use print::refusal::named;
+use print::refusal::placed;
+use print::text::labelled;
+use print::text::quoted;
 use tree::Checked;
-
-pub fn labelled(label: &[u8], n: u64) {
-    io::write_all(1, label);
-    io::print_decimal(1, n);
-}
 
 // Document 01's names.
 fn kind(n: u8) {
@@ -35,30 +34,6 @@ fn kind(n: u8) {
         }
     }
     ;
-}
-
-fn refusal_name(r: Refusal) {
-    match r {
-        Refusal::Outside(_) => io::write_all(1, b" Outside"),
-        Refusal::NotConversion(_) => io::write_all(1, b" NotConversion"),
-        Refusal::Short(_) => io::write_all(1, b" Short"),
-        Refusal::Limit(_) => io::write_all(1, b" Limit"),
-        Refusal::Deep(_) => io::write_all(1, b" Deep"),
-        Refusal::Loop(_) => io::write_all(1, b" Loop"),
-        _ => io::write_all(1, b" Other"),
-    }
-    ;
-}
-
-// The bytes of a text, as they are.
-fn quoted(image: &[u8], from: usize, to: usize) {
-    io::write_all(1, b"\"");
-    if from <= to {
-        if to <= image.len() {
-            io::write_all(1, &image[from..to]);
-        }
-    }
-    io::write_all(1, b"\"");
 }
 
 // A line with the text that a link leads to, if it leads to one.
@@ -109,14 +84,6 @@ fn reference(image: &[u8], b: Block, i: u64) {
     io::write_all(1, b"\n");
 }
 
-fn reference_count(b: Block) -> u64 {
-    if b.links < Block::FIXED {
-        0
-    } else {
-        b.links - Block::FIXED
-    }
-}
-
 fn reference_lines(image: &[u8], b: Block, n: u64) {
     for i in 0..n {
         reference(image, b, i);
@@ -124,7 +91,7 @@ fn reference_lines(image: &[u8], b: Block, n: u64) {
 }
 
 fn references(image: &[u8], b: Block) {
-    let n = reference_count(b);
+    let n = b.reference_count();
     if n == 0 {
         io::write_all(1, b"  no references\n");
     } else {
@@ -229,18 +196,8 @@ fn content(image: &[u8], b: Block) {
 
 fn refused(r: Refusal, at: u64) {
     labelled(b"Conversion at ", at);
-    labelled(b": refused ", r.number() as u64);
-    refusal_name(r);
+    named(b": refused ", r);
     io::write_all(1, b"\n");
-}
-
-fn refused_tree(r: Refusal) {
-    labelled(b"  tree refused ", r.number() as u64);
-    refusal_name(r);
-    match r.address() {
-        Word::Bits(a) => labelled(b" at ", a),
-        Word::NoWord => {}
-    }
 }
 
 // The most blocks that a tree may have here.
@@ -250,7 +207,7 @@ const LIMIT: u32 = 4096;
 fn tree_line(image: &[u8], at: u64) {
     match tree::check(image, at, LIMIT) {
         Checked::Accepted(n) => labelled(b"  blocks in its tree: ", n as u64),
-        Checked::Unsound(r) => refused_tree(r),
+        Checked::Unsound(r) => placed(b"  tree refused ", r),
     }
     io::write_all(1, b"\n");
 }

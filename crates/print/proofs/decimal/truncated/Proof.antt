@@ -3,8 +3,8 @@ use mathlib.Core.Path.{sym, subst}
 use lib.Dec.{T}
 use lib.Ieee.{ofBits, neg}
 use borrow.Author.Needs.{needs}
-use Rattle.show_blocks.proofs.decimal.truncated.Statement.{statement}
-use Rattle.show_blocks.proofs.decimal.truncated.Tie as tie
+use Rattle.print.proofs.decimal.truncated.Statement.{statement}
+use Rattle.print.proofs.decimal.truncated.Tie as tie
 
 truncating-f64-to-u64-requires : tie.Need-truncating-f64-to-u64-requires
 unfolding ofBits neg
