@@ -35,7 +35,8 @@ fn shown_by(image: &[u8], address: u64, question: &[u8]) -> Shown
     }
 }
 
-fn shown_for(image: &[u8], address: u64, limit: u32, question: &[u8]) -> Shown
+// Which part of the image is shown, if one is.
+pub fn shown_for(image: &[u8], address: u64, limit: u32, question: &[u8]) -> Shown
     ensures { λ r. ⌜ (r ≡ shownFor (now (image .entry)) address limit (now (question .entry))) × Within (now (image .entry)) r ⌝ }
 {
     match check(image, address, limit) {
