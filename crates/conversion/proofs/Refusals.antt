@@ -1,10 +1,8 @@
 -- An answer that is no refusal: the variant's number is one of these. Assumes nothing.
 use mathlib.Core.Path.{_≡_, refl}
-use mathlib.Core.List.{List, [], _∷_}
-use Prim.Native.Nat.{ℕ}
+use mathlib.Core.List.{[], _∷_}
 use denote.Enum.Declared.{tagOf}
 use types.Run.{OneOf, miss}
-use Rattle.common.specs.declared.refusal.Word.{Word}
 use Rattle.common.specs.declared.refusal.Word.the-variants.{NoWord}
 use Rattle.conversion.specs.Entry.{refusalOf, addressIn}
 use Rattle.conversion.specs.declared.logic.Answer.{Answer}

@@ -13,13 +13,13 @@ use lib.Seq.{ext-getD, getD-append-add, getD-drop}
 use Rattle.common.specs.declared.refusal.Refusal.the-variants as refusal
 use Rattle.pieces.specs.Write.{sat, sat32, Wrote}
 use Rattle.pieces.specs.Answer as says
-use Rattle.pieces.specs.Did.{saidOf, wordsOf, Did}
+use Rattle.pieces.specs.Did.{saidOf, wordsOf}
 use Rattle.pieces.specs.declared.said.Said.{Said}
 use Rattle.pieces.specs.declared.said.Said.the-variants as said
 use Rattle.pieces.specs.declared.said.Outcome.{Outcome}
 use Rattle.pieces.proofs.Laws.{below?}
 use Rattle.engine.specs.Apply.{Ap, Does}
-use Rattle.conversion.specs.Entry.{Call, call, answerIn, outputAfter, settled}
+use Rattle.conversion.specs.Entry.{call, answerIn, outputAfter, settled}
 use Rattle.conversion.specs.declared.logic.Answer.{Answer}
 use Rattle.conversion.specs.declared.logic.Answer.the-variants as answer
 

@@ -1,5 +1,5 @@
 -- Bit groups, one after the other: what the loop knows after some groups, and what one group more adds. Assumes nothing.
-use mathlib.Core.Path.{_≡_, refl, sym, ap, subst, _∙_}
+use mathlib.Core.Path.{_≡_, refl, sym, ap, _∙_}
 use mathlib.Core.Bool.{Bool, true, false}
 use mathlib.Core.List.{List, [], _∷_, _++_, append-nil, append-assoc}
 use Prim.Native.Nat.{ℕ, zero, suc, _+_, _-_, _≤_, _<_}
@@ -12,15 +12,15 @@ use Rattle.blocks.specs.declared.Block.{Block}
 use Rattle.leads.specs.Lead.{leadAt}
 use Rattle.leads.specs.declared.lead.Lead.{Lead}
 use Rattle.rules.specs.declared.number.Value.{Value}
-use Rattle.pieces.specs.Write.{sat, sat32, Wrote, Put}
+use Rattle.pieces.specs.Write.{sat32, Wrote, Put}
 use Rattle.pieces.specs.Answer.{Answer, number, text, unchanged, unknown, formula, broken, prefixed}
 use Rattle.pieces.specs.Label.{bar}
-use Rattle.pieces.specs.Did.{Did, saidOf, wordsOf}
+use Rattle.pieces.specs.Did.{saidOf, wordsOf}
 use Rattle.pieces.specs.declared.said.Said.{Said}
 use Rattle.pieces.specs.declared.said.Said.the-variants as said
 use Rattle.pieces.specs.declared.said.Outcome.{Outcome}
 use Rattle.pieces.proofs.Laws.{forget, next, then}
-use Rattle.engine.specs.Apply.{Ap, maskAt, groupCount, partOf, Groups, going, halted, grown, more, groups, joined, gathered, bitGroups, Does, afterBar}
+use Rattle.engine.specs.Apply.{Ap, maskAt, groupCount, partOf, Groups, going, halted, grown, groups, joined, bitGroups, Does, afterBar}
 
 -- ---- parts joined
 abbrev pub some : List (List ℕ) → Bool

@@ -1,5 +1,5 @@
 -- A text that a reference leads to lies in the image; the search for a text, key by key. Assumes nothing.
-use mathlib.Core.Path.{_≡_, refl, ap, _∙_}
+use mathlib.Core.Path.{_≡_, refl, _∙_}
 use mathlib.Core.Bool.{Bool, true, false, cond}
 use mathlib.Core.List.{List}
 use Prim.Native.Nat.{ℕ, zero, suc, _+_, _-_, _*_, _≤_, _<_}
@@ -17,8 +17,7 @@ use Rattle.blocks.specs.Place.{referenceOf}
 use Rattle.blocks.specs.declared.Block.{Block}
 use Rattle.leads.specs.Lead.{nestedAt, leadOf, leadAt, byText, byLink, Inside}
 use Rattle.leads.specs.Keys.{isText, firstText}
-use Rattle.leads.specs.declared.lead.Lead.{Lead}
-use Rattle.leads.specs.declared.lead.Lead.the-variants.{Words, Nested, Nil, Elsewhere}
+use Rattle.leads.specs.declared.lead.Lead.the-variants.{Nested, Nil, Elsewhere}
 
 nested-inside : (img : List ℕ) (link : ℕ) → Inside img (nestedAt img link)
 unfolding nestedAt

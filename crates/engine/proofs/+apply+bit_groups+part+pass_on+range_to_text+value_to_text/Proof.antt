@@ -4,45 +4,24 @@ mod Apply
 mod BitGroups
 mod Part
 mod PassOn
-use Prim.Native.Nat.{ℕ, _+_, _*_, _-_, _<_, _≤_}
-use borrow.Author.Needs.{needs}
-use native.Mathlib.Omega.{arith}
-use borrow.Fn.Kinds.{In}
-use borrow.Fn.PlainCycle.{Measures, is, falls, and}
+use Prim.Native.Nat.{_+_, _-_}
 use Rattle.engine.proofs.apply.Reads as apply
-use Rattle.engine.proofs.apply.Kinds as apply-kinds
 use Rattle.engine.proofs.+apply+bit_groups+part+pass_on+range_to_text+value_to_text.Lts-apply as apply-lts
 use Rattle.engine.proofs.bit_groups.Reads as bit-groups
-use Rattle.engine.proofs.bit_groups.Kinds as bit-groups-kinds
 use Rattle.engine.proofs.+apply+bit_groups+part+pass_on+range_to_text+value_to_text.Lts-bit_groups as bit-groups-lts
 use Rattle.engine.proofs.part.Reads as part
-use Rattle.engine.proofs.part.Kinds as part-kinds
 use Rattle.engine.proofs.+apply+bit_groups+part+pass_on+range_to_text+value_to_text.Lts-part as part-lts
 use Rattle.engine.proofs.pass_on.Reads as pass-on
-use Rattle.engine.proofs.pass_on.Kinds as pass-on-kinds
 use Rattle.engine.proofs.+apply+bit_groups+part+pass_on+range_to_text+value_to_text.Lts-pass_on as pass-on-lts
 use Rattle.engine.proofs.range_to_text.Reads as range-to-text
-use Rattle.engine.proofs.range_to_text.Kinds as range-to-text-kinds
 use Rattle.engine.proofs.+apply+bit_groups+part+pass_on+range_to_text+value_to_text.Lts-range_to_text as range-to-text-lts
 use Rattle.engine.proofs.value_to_text.Reads as value-to-text
-use Rattle.engine.proofs.value_to_text.Kinds as value-to-text-kinds
 use Rattle.engine.proofs.+apply+bit_groups+part+pass_on+range_to_text+value_to_text.Lts-value_to_text as value-to-text-lts
-use Rattle.engine.proofs.group_count.Reads as group-count-reads
-use Rattle.engine.proofs.mask_at.Reads as mask-at-reads
-use Rattle.leads.proofs.lead.lead_at.Reads as lead-at-reads
-use Rattle.pieces.proofs.label.paste_bar.Reads as paste-bar-reads
-use Rattle.pieces.proofs.label.paste_label.Reads as paste-label-reads
-use Rattle.pieces.proofs.paste.add_visits.Reads as add-visits-reads
-use Rattle.pieces.proofs.paste.paste.Reads as paste-reads
-use Rattle.pieces.proofs.said.Outcome.counted.Reads as counted-reads
-use Rattle.pieces.proofs.said.Outcome.quiet.Reads as quiet-reads
 use Rattle.pieces.proofs.said.spell.Reads as spell-reads
 use Rattle.steps.proofs.choice.chosen_key.Reads as chosen-key-reads
-use Rattle.steps.proofs.choice.chosen_range.Reads as chosen-range-reads
-use Rattle.steps.proofs.step.step_at.Reads as step-at-reads
 use Rattle.engine.proofs.+apply+bit_groups+part+pass_on+range_to_text+value_to_text.{statement}
 use Rattle.engine.proofs.+apply+bit_groups+part+pass_on+range_to_text+value_to_text.Tie.{close}
-use Rattle.engine.proofs.+apply+bit_groups+part+pass_on+range_to_text+value_to_text.Proof.Shared.{μ-apply, μ-bit-groups, μ-part, μ-pass-on, μ-range-to-text, μ-value-to-text, apply-at, apply-below, bit-groups-at, bit-groups-below, part-at, part-below, pass-on-at, pass-on-below, range-to-text-at, range-to-text-below, value-to-text-at, value-to-text-below, apply-calls, bit-groups-calls, part-calls, pass-on-calls, range-to-text-calls, value-to-text-calls}
+use Rattle.engine.proofs.+apply+bit_groups+part+pass_on+range_to_text+value_to_text.Proof.Shared.{μ-apply, μ-bit-groups, μ-part, μ-pass-on, μ-range-to-text, μ-value-to-text, apply-at, apply-below, bit-groups-at, part-at, pass-on-at, pass-on-below, range-to-text-at, value-to-text-at, apply-calls, bit-groups-calls, part-calls, range-to-text-calls}
 use Rattle.engine.proofs.+apply+bit_groups+part+pass_on+range_to_text+value_to_text.Proof.Apply.{apply-quiet-requires, apply-counted-requires, apply-returns, apply-sub-below, apply-step-at-requires, apply-enum-known-b, apply-value-to-text-requires, apply-counted-requires-2, apply-enum-known-b-2, apply-range-to-text-requires, apply-counted-requires-3, apply-enum-known-b-3, apply-bit-groups-requires, apply-counted-requires-4, apply-enum-known-p, apply-spell-requires, apply-counted-requires-5, apply-same-length, apply-returns-2, apply-same-length-2, apply-returns-3, apply-same-length-3, apply-returns-4, apply-same-length-4, apply-returns-5}
 use Rattle.engine.proofs.+apply+bit_groups+part+pass_on+range_to_text+value_to_text.Proof.BitGroups.{bit-groups-Inv-loop, bit-groups-μ-loop, bit-groups-group-count-requires, bit-groups-loop-holds, bit-groups-lead-at-requires, bit-groups-mask-at-requires, bit-groups-part-requires, bit-groups-add-visits-requires, bit-groups-enum-known-said, bit-groups-enum-told, bit-groups-same-length, bit-groups-returns, bit-groups-enum-told-2, bit-groups-same-length-2, bit-groups-returns-2, bit-groups-enum-told-3, bit-groups-enum-told-4, bit-groups-enum-told-5, bit-groups-add-i, bit-groups-loop-less, bit-groups-loop-again, bit-groups-same-length-3, bit-groups-returns-3}
 use Rattle.engine.proofs.+apply+bit_groups+part+pass_on+range_to_text+value_to_text.Proof.Part.{part-enum-known-lead, part-paste-bar-requires, part-paste-requires, part-quiet-requires, part-enum-known-lead-2, part-paste-label-requires, part-apply-requires, part-enum-told, part-quiet-requires-2, part-enum-told-2, part-quiet-requires-3, part-same-length, part-returns, part-same-length-2, part-returns-2, part-returns-3, part-returns-4}

@@ -1,5 +1,5 @@
 -- The answers of `engine::apply`. Assumes nothing.
-use mathlib.Core.Path.{_≡_, refl, sym, ap, subst, _∙_}
+use mathlib.Core.Path.{subst}
 use denote.Ref.{now}
 use Rattle.steps.specs.Step.{StepIn}
 use Rattle.pieces.specs.Answer.{broken}
@@ -7,43 +7,12 @@ use Rattle.pieces.specs.Did.{saidOf, wordsOf}
 use Rattle.pieces.proofs.Laws.{none}
 use Rattle.engine.specs.Apply.{applied}
 use Rattle.engine.proofs.Levels.{level, one-more}
-use Prim.Native.Nat.{ℕ, _+_, _*_, _-_, _<_, _≤_}
+use Prim.Native.Nat.{ℕ, _-_}
 use borrow.Author.Needs.{needs}
 use native.Mathlib.Omega.{arith}
-use borrow.Fn.Kinds.{In}
-use borrow.Fn.PlainCycle.{Measures, is, falls, and}
 use Rattle.engine.proofs.apply.Reads as apply
-use Rattle.engine.proofs.apply.Kinds as apply-kinds
 use Rattle.engine.proofs.+apply+bit_groups+part+pass_on+range_to_text+value_to_text.Lts-apply as apply-lts
-use Rattle.engine.proofs.bit_groups.Reads as bit-groups
-use Rattle.engine.proofs.bit_groups.Kinds as bit-groups-kinds
-use Rattle.engine.proofs.+apply+bit_groups+part+pass_on+range_to_text+value_to_text.Lts-bit_groups as bit-groups-lts
-use Rattle.engine.proofs.part.Reads as part
-use Rattle.engine.proofs.part.Kinds as part-kinds
-use Rattle.engine.proofs.+apply+bit_groups+part+pass_on+range_to_text+value_to_text.Lts-part as part-lts
-use Rattle.engine.proofs.pass_on.Reads as pass-on
-use Rattle.engine.proofs.pass_on.Kinds as pass-on-kinds
-use Rattle.engine.proofs.+apply+bit_groups+part+pass_on+range_to_text+value_to_text.Lts-pass_on as pass-on-lts
-use Rattle.engine.proofs.range_to_text.Reads as range-to-text
-use Rattle.engine.proofs.range_to_text.Kinds as range-to-text-kinds
-use Rattle.engine.proofs.+apply+bit_groups+part+pass_on+range_to_text+value_to_text.Lts-range_to_text as range-to-text-lts
-use Rattle.engine.proofs.value_to_text.Reads as value-to-text
-use Rattle.engine.proofs.value_to_text.Kinds as value-to-text-kinds
-use Rattle.engine.proofs.+apply+bit_groups+part+pass_on+range_to_text+value_to_text.Lts-value_to_text as value-to-text-lts
-use Rattle.engine.proofs.group_count.Reads as group-count-reads
-use Rattle.engine.proofs.mask_at.Reads as mask-at-reads
-use Rattle.leads.proofs.lead.lead_at.Reads as lead-at-reads
-use Rattle.pieces.proofs.label.paste_bar.Reads as paste-bar-reads
-use Rattle.pieces.proofs.label.paste_label.Reads as paste-label-reads
-use Rattle.pieces.proofs.paste.add_visits.Reads as add-visits-reads
-use Rattle.pieces.proofs.paste.paste.Reads as paste-reads
-use Rattle.pieces.proofs.said.Outcome.counted.Reads as counted-reads
-use Rattle.pieces.proofs.said.Outcome.quiet.Reads as quiet-reads
-use Rattle.pieces.proofs.said.spell.Reads as spell-reads
-use Rattle.steps.proofs.choice.chosen_key.Reads as chosen-key-reads
-use Rattle.steps.proofs.choice.chosen_range.Reads as chosen-range-reads
-use Rattle.steps.proofs.step.step_at.Reads as step-at-reads
-use Rattle.engine.proofs.+apply+bit_groups+part+pass_on+range_to_text+value_to_text.Proof.Shared.{μ-apply, μ-bit-groups, μ-part, μ-pass-on, μ-range-to-text, μ-value-to-text, apply-at, apply-below, bit-groups-at, bit-groups-below, part-at, part-below, pass-on-at, pass-on-below, range-to-text-at, range-to-text-below, value-to-text-at, value-to-text-below, apply-calls, bit-groups-calls, part-calls, pass-on-calls, range-to-text-calls, value-to-text-calls}
+use Rattle.engine.proofs.+apply+bit_groups+part+pass_on+range_to_text+value_to_text.Proof.Shared.{apply-at, apply-calls}
 
 pub apply-quiet-requires : (t : ℕ) → apply-lts.Need-quiet-requires (apply-calls t) (apply-at t) apply.Post
 apply-quiet-requires t c κs = search needs

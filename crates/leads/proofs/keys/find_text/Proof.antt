@@ -1,13 +1,11 @@
 -- `leads::keys::find_text` meets its contract. Assumes nothing.
 use borrow.Author.Needs.{needs}
 use mathlib.Core.Path.{_≡_, sym, ap, _∙_}
-use mathlib.Core.Bool.{true, false}
-use Prim.Native.Nat.{ℕ, _+_, _-_, _*_, _≤_}
+use Prim.Native.Nat.{_+_, _-_, _≤_}
 use native.Mathlib.Nat.{mul-le-mul-right}
 use native.Mathlib.Omega.{arith}
 use denote.Ref.{now}
-use Rattle.leads.specs.Lead.{leadAt}
-use Rattle.leads.specs.Keys.{isText, firstText}
+use Rattle.leads.specs.Keys.{firstText}
 use Rattle.leads.proofs.Leads.{key-here, key-later, no-key}
 use Rattle.leads.proofs.keys.find_text.Statement.{statement}
 use Rattle.leads.proofs.keys.find_text.Tie as tie

@@ -1,9 +1,8 @@
 -- `leads::keys::is_key` meets its contract. Assumes nothing.
-use mathlib.Core.Path.{_≡_, sym, ap, subst, _∙_}
+use mathlib.Core.Path.{sym, ap, subst, _∙_}
 use denote.Ref.{now}
 use Rattle.leads.specs.Lead.{Inside}
 use Rattle.leads.specs.Keys.{isText}
-use Rattle.leads.specs.declared.lead.Lead.{Lead}
 use Rattle.leads.proofs.Leads.{lead-at-inside}
 use borrow.Author.Needs.{needs}
 use Rattle.leads.proofs.keys.is_key.Statement.{statement}

@@ -1,6 +1,5 @@
 -- `leads::keys::value_key` meets its contract. Assumes nothing.
 use mathlib.Core.Path.{ap, _∙_}
-use Prim.Native.Nat.{ℕ}
 use denote.Ref.{now}
 use Rattle.leads.specs.Keys.{firstText, valueKey}
 use borrow.Author.Needs.{needs}
