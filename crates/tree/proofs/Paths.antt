@@ -1,16 +1,18 @@
 -- Laws of a path: the first n addresses of an array. Assumes nothing.
-use mathlib.Core.Path.{_≡_, refl, ap, _∙_}
+use mathlib.Core.Path.{_≡_, refl, sym, ap, subst, _∙_}
 use mathlib.Core.Bool.{Bool, true, false, cond}
-use mathlib.Core.List.{List, _∷_}
+use mathlib.Core.Logic.{_⊎_, inl, inr, ⊎-elim}
+use mathlib.Core.List.{List, [], _∷_, _++_}
 use Prim.Native.Nat.{ℕ, _+_, _≤_, _<_}
 use native.Mathlib.Numerals.{add-one}
 use native.Mathlib.Omega.{arith}
-use borrow.Author.Tests.{eq-eqb, ne-eqb}
+use borrow.Author.Tests.{eq-eqb, ne-eqb, eqb-true, le-leb}
 use lib.Dec.{eqb}
 use lib.ListN.{length, getD, take, drop, drop-of-length-le}
 use lib.Seq.{drop-cons, getD-take, length-take-le}
 use Rattle.common.specs.Header.{inside, isConversion}
 use Rattle.common.proofs.Headers.{inside-fits}
+use Rattle.tree.specs.Shape.{Standing}
 use Rattle.tree.specs.Walk.{on, classed}
 use Rattle.tree.specs.declared.Link.the-variants.{Nowhere, Back, Nested}
 
@@ -48,3 +50,57 @@ nested-fits img path r e = go (eqb r 0) (on r path) (inside img r) refl e
     go false true z t p = let q : _≡_ {A = ℕ} 0 1 = cc in absurd (omega arith)
     go false false true t p = inside-fits img r t
     go false false false t p = let q : _≡_ {A = ℕ} 0 1 = cc in absurd (omega arith)
+
+-- and that header is a conversion's
+pub nested-conversion : (img path : List ℕ) (r : ℕ) → classed img path r ≡ Nested → isConversion img r ≡ true
+unfolding classed
+nested-conversion img path r e = go (eqb r 0) (on r path) (inside img r) (isConversion img r) e
+  where
+    go : (x y z w : Bool) → cond x Nowhere (cond y Back (cond z (cond w Nested Nowhere) Nowhere)) ≡ Nested → w ≡ true
+    go true y z w p = let q : _≡_ {A = ℕ} 0 1 = cc in absurd (omega arith)
+    go false true z w p = let q : _≡_ {A = ℕ} 0 1 = cc in absurd (omega arith)
+    go false false true true p = refl
+    go false false true false p = let q : _≡_ {A = ℕ} 0 1 = cc in absurd (omega arith)
+    go false false false w p = let q : _≡_ {A = ℕ} 0 1 = cc in absurd (omega arith)
+
+-- ---- each address on the path is a ##CC block's
+no-both : {b : Bool} → b ≡ true → b ≡ false → ⊥
+no-both h k = let z : true ≡ false = sym h ∙ k in let q : _≡_ {A = ℕ} 0 1 = cc in omega arith
+
+-- an address that is none is not on it
+pub off-path : (img path : List ℕ) (r : ℕ) → Standing img path → (inside img r ≡ true → isConversion img r ≡ true → ⊥) → on r path ≡ false
+off-path img path r standing none = go (on r path) refl
+  where
+    go : (b : Bool) → on r path ≡ b → b ≡ false
+    go true e = absurd (none (standing r e .0) (standing r e .1))
+    go false e = refl
+
+pub not-inside : (img : List ℕ) (r : ℕ) → inside img r ≡ false → inside img r ≡ true → isConversion img r ≡ true → ⊥
+not-inside img r h k l = no-both k h
+
+pub not-conversion : (img : List ℕ) (r : ℕ) → isConversion img r ≡ false → inside img r ≡ true → isConversion img r ≡ true → ⊥
+not-conversion img r h k l = no-both l h
+
+pub standing-none : (img : List ℕ) → Standing img []
+unfolding on
+standing-none img r e = let q : _≡_ {A = ℕ} 0 1 = cc in absurd (omega arith)
+
+-- one block more
+on-more : (path : List ℕ) (a r : ℕ) → on r (path ++ (a ∷ [])) ≡ true → (on r path ≡ true) ⊎ (a ≡ r)
+unfolding on
+on-more [] a r e = go (eqb a r) refl e
+  where
+    go : (b : Bool) → eqb a r ≡ b → cond b true false ≡ true → (false ≡ true) ⊎ (a ≡ r)
+    go true h p = inr (eqb-true a r h)
+    go false h p = inl p
+on-more (x ∷ path) a r e = go (eqb x r) e (on-more path a r)
+  where
+    go : (b : Bool) → cond b true (on r (path ++ (a ∷ []))) ≡ true → (on r (path ++ (a ∷ [])) ≡ true → (on r path ≡ true) ⊎ (a ≡ r))
+        → (cond b true (on r path) ≡ true) ⊎ (a ≡ r)
+    go true p f = inl refl
+    go false p f = f p
+
+pub standing-more : (img path : List ℕ) (a : ℕ) → Standing img path → a + 24 ≤ length img → isConversion img a ≡ true → Standing img (path ++ (a ∷ []))
+unfolding inside
+standing-more img path a standing fits is r e =
+    ⊎-elim (standing r) (λ (same : a ≡ r). (le-leb (r + 24) (length img) (omega arith), subst (λ (k : ℕ). isConversion img k ≡ true) same is)) (on-more path a r e)

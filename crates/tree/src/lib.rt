@@ -12,7 +12,9 @@ ghost use Prim.Native.Nat.{_+_, _≤_, _<_};
 ghost use lib.ListN.{length, take};
 ghost use Rattle.blocks.specs.Block.{opened};
 ghost use Rattle.tree.specs.Walk.{on, classed, walk as walkOf, answer, checked};
-ghost use Rattle.tree.specs.Shape.{shapeOf};
+ghost use Rattle.tree.specs.Shape.{shapeOf, Standing};
+ghost use Rattle.common.specs.Header.{isConversion};
+ghost use mathlib.Core.Bool.{true};
 
 // The number of visits begun, or the first refusal.
 pub enum Checked {
@@ -80,19 +82,20 @@ impl Path {
     }
 }
 
-// The five steps of document 01 for a reference of a block whose path, itself included, is given.
+// The five steps of document 01 for a reference of a block whose path, itself included, is given. The path is asked last: each address on it is a
+// ##CC block's, so a reference that leads to none cannot be on it. References to texts, which are the most, cost no search.
 fn class(image: &[u8], path: Path, r: u64) -> Link
-    requires { ⌜ path .len ≤ 21 ⌝ }
+    requires { ⌜ (path .len ≤ 21) × Standing (now image) (take (path .len) (path .at)) ⌝ }
     ensures { λ k. ⌜ k ≡ classed (now (image .entry)) (take (path .len) (path .at)) r ⌝ }
 {
     if r == 0 {
         return Link::Nowhere;
     }
-    if path.has(r) {
-        return Link::Back;
-    }
     if Header::is_inside(image, r) {
         if Header::is_conversion(image, r as usize) {
+            if path.has(r) {
+                return Link::Back;
+            }
             return Link::Nested;
         }
     }
@@ -110,9 +113,10 @@ fn shape_at(image: &[u8], at: usize) -> Shape
     }
 }
 
-// The block at `at`, below the blocks of `path`, with `left` levels left, after so many visits.
+// The ##CC block at `at`, below the blocks of `path`, with `left` levels left, after so many visits.
 fn walk(image: &[u8], at: u64, path: Path, left: u32, visits: u32, limit: u32) -> Checked
     requires { ⌜ (at + 24 ≤ length (now image)) × (path .len + left ≤ 21) × (visits ≤ limit) ⌝ }
+    requires { ⌜ (isConversion (now image) at ≡ true) × Standing (now image) (take (path .len) (path .at)) ⌝ }
     ensures { λ r. ⌜ r ≡ answer limit visits (walkOf left (now (image .entry)) (take (path .len) (path .at)) at) ⌝ }
 {
     if visits == limit {

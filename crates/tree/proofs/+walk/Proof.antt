@@ -1,7 +1,7 @@
 -- The proof of the cycle of calls {walk}. The measure is the number of levels left. The loop's invariant: the answer for all of the block's
 -- references from the loop's start is the answer for those that are left from the present visits. Assumes nothing.
 use borrow.Author.Needs.{needs}
-use mathlib.Core.Path.{_≡_, sym, ap, _∙_}
+use mathlib.Core.Path.{_≡_, sym, ap, subst, _∙_}
 use mathlib.Core.Logic.{⊎-elim}
 use mathlib.Core.List.{List, _∷_}
 use Prim.Native.Nat.{ℕ, _+_, _-_, _*_, _<_, _≤_}
@@ -12,7 +12,7 @@ use borrow.Fn.PlainCycle.{Measures, is, falls, and}
 use Rattle.words.specs.Words.{words}
 use Rattle.words.proofs.u64_at.Reads as u64-at-reads
 use Rattle.blocks.specs.Block.{opened}
-use Rattle.tree.specs.Shape.{shapeOf}
+use Rattle.tree.specs.Shape.{shapeOf, Standing}
 use Rattle.tree.specs.Walk.{Walk, walkLinks, classed, answer, walk as walkOf}
 use Rattle.tree.specs.declared.Path.{Path}
 use Rattle.tree.specs.declared.Link.{Link}
@@ -20,7 +20,7 @@ use Rattle.tree.specs.declared.Shape.the-variants.{Uncut}
 use Rattle.tree.specs.declared.Checked.{Checked}
 use Rattle.tree.proofs.Answers.{after, answer-nothing, answer-within, step-nowhere, step-back, step-nested}
 use Rattle.tree.proofs.Blocks.{uncut-room, walk-full, walk-short, walk-deep, walk-open, words-more, words-none, words-all}
-use Rattle.tree.proofs.Paths.{nested-fits}
+use Rattle.tree.proofs.Paths.{nested-fits, nested-conversion, standing-more}
 use Rattle.tree.proofs.walk.Reads as walk
 use Rattle.tree.proofs.walk.Kinds as walk-kinds
 use Rattle.tree.proofs.+walk.Lts-walk as walk-lts
@@ -102,6 +102,13 @@ module _ (t : ℕ) where
   -- the answer for a list of references after n visits
   abbrev from : After-with → ℕ → List ℕ → Checked
   from c n rs = answer (start c .args .limit) n (rest (start c .args .image .now) (start c .args .left) (c .with .result) rs)
+
+  -- the path with the block itself
+  stands : (c : After-with) → Standing (start c .args .image .now) (on (c .with .result))
+  stands c =
+      let s = start c in
+      let img = s .args .image .now in
+      subst (Standing img) (sym (c .with .ensures .1)) (standing-more img (on (s .args .path)) (s .args .at) (s .pre .1 .1 .1) (s .pre .1 .0 .0) (s .pre .1 .1 .0))
 
   -- at the loop's start
   opens : (c : After-with)
@@ -196,7 +203,7 @@ module _ (t : ℕ) where
   walk-u64-at-requires c κs = omega (arith, enough (c .before .before .before .before .before))
 
   walk-class-requires : walk-lts.Need-class-requires (calls t) (walk-at t) walk.Post Inv μ
-  walk-class-requires c κs = search needs
+  walk-class-requires c κs = (omega (arith, start (c .before .before .before)), stands (c .before .before .before))
 
   walk-enum-told-2 : walk-lts.Need-enum-told-2 (calls t) (walk-at t) walk.Post Inv μ
   walk-enum-told-2 c = search needs
@@ -220,7 +227,13 @@ module _ (t : ℕ) where
   walk-walk-requires c κs =
       let k = c .before .before in
       let e = sym (k .class .ensures) ∙ c .enum-told4 .given .1 in
-      (omega (arith, start (w k)), (nested-fits (start (w k) .args .image .now) (on (w k .with .result)) (r k) e, omega (arith, start (w k)), omega (arith, start (w k))))
+      
+      let img = start (w k) .args .image .now in
+      let inner = on (w k .with .result) in
+      (omega (arith, start (w k)), (
+        (nested-fits img inner (r k) e, omega (arith, start (w k)), omega (arith, start (w k))),
+        (nested-conversion img inner (r k) e, stands (w k)),
+      ))
 
   walk-enum-known-w : walk-lts.Need-enum-known-w (calls t) (walk-at t) walk.Post Inv μ
   walk-enum-known-w c = search needs

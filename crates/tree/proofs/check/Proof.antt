@@ -1,11 +1,13 @@
 -- `tree::check` meets its contract. Assumes nothing.
-use mathlib.Core.Path.{sym, ap, _∙_}
+use mathlib.Core.Path.{sym, ap, subst, _∙_}
 use Prim.Native.Nat.{ℕ}
 use native.Mathlib.Omega.{arith}
 use lib.ListN.{take}
 use denote.Ref.{now}
 use Rattle.common.proofs.Headers.{inside-fits}
 use Rattle.tree.specs.Walk.{answer, walk}
+use Rattle.tree.specs.Shape.{Standing}
+use Rattle.tree.proofs.Paths.{standing-none}
 use Rattle.tree.proofs.Checks.{checked-outside, checked-other, checked-walk}
 use borrow.Author.Needs.{needs}
 use Rattle.tree.proofs.check.Statement.{statement}
@@ -25,7 +27,11 @@ new-requires c κs = search needs
 walk-requires : tie.Need-walk-requires
 walk-requires c κs =
     let a = c .before .before .before .before .before .before .args in
-    (inside-fits (now (a .image)) (a .address) (sym (c .before .before .before .before .is-inside .ensures) ∙ c .before .before .before .if1 .taken), omega arith, omega arith)
+    let img = now (a .image) in
+    let root = c .new .result in
+    let none = subst (λ (m : ℕ). Standing img (take m (root .at))) (sym (c .new .ensures)) (standing-none img) in
+    let inner = inside-fits img (a .address) (sym (c .before .before .before .before .is-inside .ensures) ∙ c .before .before .before .if1 .taken) in
+    ((inner, omega arith, omega arith), (sym (c .before .before .is-conversion .ensures) ∙ c .before .if2 .taken, none))
 
 returns : tie.Need-returns
 returns c =

@@ -2,8 +2,10 @@
 use mathlib.Core.Path.{sym, _∙_}
 use borrow.Author.Tests.{eq-eqb, ne-eqb}
 use denote.Ref.{now}
+use lib.ListN.{take}
 use Rattle.common.proofs.Headers.{inside-fits}
 use Rattle.tree.specs.Walk.{classed}
+use Rattle.tree.proofs.Paths.{off-path, not-inside, not-conversion}
 use borrow.Author.Needs.{needs}
 use Rattle.tree.proofs.class.Statement.{statement}
 use Rattle.tree.proofs.class.Tie as tie
@@ -12,48 +14,52 @@ returns : tie.Need-returns
 unfolding classed
 returns c = simp (eq-eqb _ _ (c .if1 .taken))
 
-has-requires : tie.Need-has-requires
-has-requires c κs = search needs
-
-returns-2 : tie.Need-returns-2
-unfolding classed
-returns-2 c = simp (ne-eqb _ _ (c .before .before .if1 .left), sym (c .before .has .ensures) ∙ c .if2 .taken)
-
 is-inside-requires : tie.Need-is-inside-requires
 is-inside-requires c κs = search needs
 
 is-conversion-requires : tie.Need-is-conversion-requires
 is-conversion-requires c κs =
-    let a = c .before .before .before .before .before .before .args in
-    inside-fits (now (a .image)) (a .r) cc
+    let s = c .before .before .before .before .args in
+    inside-fits (now (s .image)) (s .r) (sym (c .before .is-inside .ensures) ∙ c .if2 .taken)
+
+has-requires : tie.Need-has-requires
+has-requires c κs = search needs
+
+returns-2 : tie.Need-returns-2
+unfolding classed
+returns-2 c = simp (ne-eqb _ _ (c .before .before .before .before .before .before .if1 .left), sym (c .before .has .ensures) ∙ c .if4 .taken)
 
 returns-3 : tie.Need-returns-3
 unfolding classed
 returns-3 c =
     simp (
       ne-eqb _ _ (c .before .before .before .before .before .before .if1 .left),
-      sym (c .before .before .before .before .before .has .ensures) ∙ c .before .before .before .before .if2 .left,
-      sym (c .before .before .before .is-inside .ensures) ∙ c .before .before .if3 .taken,
-      sym (c .before .is-conversion .ensures) ∙ c .if4 .taken,
+      sym (c .before .has .ensures) ∙ c .if4 .left,
+      sym (c .before .before .before .before .before .is-inside .ensures) ∙ c .before .before .before .before .if2 .taken,
+      sym (c .before .before .before .is-conversion .ensures) ∙ c .before .before .if3 .taken,
     )
 
 returns-4 : tie.Need-returns-4
 unfolding classed
 returns-4 c =
+    let s = c .before .before .before .before .before .before .args in
+    let none = sym (c .before .is-conversion .ensures) ∙ c .if3 .left in
     simp (
-      ne-eqb _ _ (c .before .before .before .before .before .before .if1 .left),
-      sym (c .before .before .before .before .before .has .ensures) ∙ c .before .before .before .before .if2 .left,
-      sym (c .before .before .before .is-inside .ensures) ∙ c .before .before .if3 .taken,
-      sym (c .before .is-conversion .ensures) ∙ c .if4 .left,
+      ne-eqb _ _ (c .before .before .before .before .if1 .left),
+      off-path (now (s .image)) (take (s .path .len) (s .path .at)) (s .r) (c .before .before .before .before .before .before .pre .1) (not-conversion (now (s .image)) (s .r) none),
+      sym (c .before .before .before .is-inside .ensures) ∙ c .before .before .if2 .taken,
+      none,
     )
 
 returns-5 : tie.Need-returns-5
 unfolding classed
 returns-5 c =
+    let s = c .before .before .before .before .args in
+    let none = sym (c .before .is-inside .ensures) ∙ c .if2 .left in
     simp (
-      ne-eqb _ _ (c .before .before .before .before .if1 .left),
-      sym (c .before .before .before .has .ensures) ∙ c .before .before .if2 .left,
-      sym (c .before .is-inside .ensures) ∙ c .if3 .left,
+      ne-eqb _ _ (c .before .before .if1 .left),
+      off-path (now (s .image)) (take (s .path .len) (s .path .at)) (s .r) (c .before .before .before .before .pre .1) (not-inside (now (s .image)) (s .r) none),
+      none,
     )
 
 pub class-spec : {M : Type 1} → statement M
@@ -61,10 +67,10 @@ class-spec =
     tie.close
     (tie.spec
     returns
-    has-requires
-    returns-2
     is-inside-requires
     is-conversion-requires
+    has-requires
+    returns-2
     returns-3
     returns-4
     returns-5)
