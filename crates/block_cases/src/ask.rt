@@ -1,13 +1,14 @@
 // The commands that ask: of the memory, of an image, which is the memory's first bytes, and of a block.
-use crate::command::Args;
-use crate::parts::is_same;
-use crate::parts::part;
-use crate::parts::word;
 use crate::say;
 use blocks::Block;
 use blocks::Number;
 use blocks::Parsed;
 use common::refusal::Word;
+use lines::parts::is_same;
+use lines::parts::part;
+use lines::parts::word;
+use lines::read::Args;
+use lines::table::bad;
 
 // Says that two parts of the memory differ.
 fn compare(mem: &[u8], n: Args) {
@@ -55,6 +56,6 @@ pub fn ask(line: &[u8], c: u8, n: Args, mem: &[u8]) {
         b'l' => say::text(image, n.a),
         b'p' => look(c, image, image, n),
         b'f' | b'i' | b'r' | b'v' | b'x' => look(c, mem, image, n),
-        _ => say::bad(line),
+        _ => bad(line),
     }
 }

@@ -4,38 +4,21 @@
 // by hand from document 01. So a case is data, and the program that obeys them stays small.
 mod ask;
 mod command;
-mod parts;
 mod say;
 mod write;
 
-ghost use Prim.Native.Nat.{_≤_, _<_};
+use lines::parts::part;
+ghost use Prim.Native.Nat.{_≤_};
 ghost use lib.ListN.{length};
-
-// Obeys the command behind the mark at `at`, or writes the byte there as it is, and answers the place where it goes on.
-fn piece(s: &[u8], at: usize, mem: &mut [u8]) -> usize
-    requires { ⌜ (at < length (now s)) × (length (now s) ≤ 65536) ⌝ }
-    ensures { λ r. ⌜ at < r ⌝ }
-{
-    let close = match s[at] {
-        b'!' => b'\n',
-        b'{' => b'}',
-        _ => 0,
-    };
-    if close == 0 {
-        io::write_all(1, parts::part(s, at, at + 1));
-        return at + 1;
-    }
-    let end = parts::find(s, at + 1, close);
-    command::obey(parts::part(s, at + 1, end), close == b'}', mem);
-    end + 1
-}
 
 fn all(s: &[u8], mem: &mut [u8])
     requires { ⌜ length (now s) ≤ 65536 ⌝ }
 {
     let mut at = 0;
     while at < s.len() {
-        at = piece(s, at, mem);
+        let c = lines::table::next(s, at);
+        command::obey(part(s, c.from, c.to), c.is_said, mem);
+        at = c.next;
     }
 }
 

@@ -1,10 +1,10 @@
 // What the library answers, in words.
-use crate::parts::find;
-use crate::parts::part;
 use blocks::Block;
 use common::refusal::Refusal;
 use common::refusal::Word;
 use common::text::Text;
+use lines::parts::find;
+use lines::parts::part;
 use writer::Written;
 
 // The phrases by their numbers. 1 to 9 are the names of the refusals.
@@ -36,10 +36,6 @@ const WROTE: usize = 21;
 
 pub const NOT: usize = 22;
 
-const BAD: usize = 23;
-
-const END: usize = 24;
-
 // Writes the phrase of this number. Each stands in 20 bytes, between the bar behind its number and the next bar.
 pub fn say(k: usize) {
     let s: &[u8] = b"00|refused |........\
@@ -64,22 +60,13 @@ pub fn say(k: usize) {
         19|whole, |.........\
         20|no text|.........\
         21|wrote |..........\
-        22| not|............\
-        23|bad case: |......\
-        24|\n|...............";
-    if k < 25 {
+        22| not|............";
+    if k < 23 {
         let at = 20 * k + 3;
         if at <= s.len() {
             io::write_all(1, part(s, at, find(s, at, b'|')));
         }
     }
-}
-
-// A command that is not understood.
-pub fn bad(line: &[u8]) {
-    say(BAD);
-    io::write_all(1, line);
-    say(END);
 }
 
 // Its number, the name that document 01 has for that, and its address if it carries one.

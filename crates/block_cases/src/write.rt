@@ -1,12 +1,10 @@
 // The commands that write a block into the memory.
-use crate::command::Args;
-use crate::parts::first_floats;
-use crate::parts::first_words;
-use crate::parts::room;
-use crate::parts::word;
 use crate::say;
 use blocks::Block;
 use blocks::Parsed;
+use lines::parts::room;
+use lines::parts::word;
+use lines::read::Args;
 use writer::Written;
 
 // Two references and two values to write. The values behind the second are the same as that.
@@ -45,6 +43,21 @@ fn record(c: u8, mem: &[u8]) -> Block {
         }
         Parsed::Refused(_) => Block::new(0),
     }
+}
+
+// The first n, or all where there are fewer.
+fn first_words(s: &[u64], n: usize) -> &[u64] {
+    if n <= s.len() {
+        return &s[0..n];
+    }
+    s
+}
+
+fn first_floats(s: &[f64], n: usize) -> &[f64] {
+    if n <= s.len() {
+        return &s[0..n];
+    }
+    s
 }
 
 // As many of the references and of the values as the command says.

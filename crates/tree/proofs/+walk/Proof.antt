@@ -227,13 +227,14 @@ module _ (t : ℕ) where
   walk-walk-requires c κs =
       let k = c .before .before in
       let e = sym (k .class .ensures) ∙ c .enum-told4 .given .1 in
-      
       let img = start (w k) .args .image .now in
-      let inner = on (w k .with .result) in
-      (omega (arith, start (w k)), (
-        (nested-fits img inner (r k) e, omega (arith, start (w k)), omega (arith, start (w k))),
-        (nested-conversion img inner (r k) e, stands (w k)),
-      ))
+      let inner = on (w k .with .result) in (
+        omega (arith, start (w k)),
+        (
+          (nested-fits img inner (r k) e, omega (arith, start (w k)), omega (arith, start (w k))),
+          (nested-conversion img inner (r k) e, stands (w k)),
+        ),
+      )
 
   walk-enum-known-w : walk-lts.Need-enum-known-w (calls t) (walk-at t) walk.Post Inv μ
   walk-enum-known-w c = search needs

@@ -2,8 +2,8 @@
 use Prim.Native.Nat.{_-_}
 use lib.ListN.{length}
 use borrow.Author.Needs.{needs}
-use Rattle.block_cases.proofs.command.number.Statement.{statement}
-use Rattle.block_cases.proofs.command.number.Tie as tie
+use Rattle.lines.proofs.read.number.Statement.{statement}
+use Rattle.lines.proofs.read.number.Tie as tie
 
 abbrev Inv-loop : tie.InvT-loop
 Inv-loop line at n₀ i₀ n i = Unit {0}

@@ -3,8 +3,8 @@ use borrow.Author.Needs.{needs}
 use mathlib.Core.Path.{_≡_}
 use Prim.Native.Nat.{_≤_, _-_}
 use lib.ListN.{length}
-use Rattle.block_cases.proofs.parts.is_same.Statement.{statement}
-use Rattle.block_cases.proofs.parts.is_same.Tie as tie
+use Rattle.lines.proofs.parts.is_same.Statement.{statement}
+use Rattle.lines.proofs.parts.is_same.Tie as tie
 
 abbrev Inv-loop : tie.InvT-loop
 Inv-loop a b k₀ k-end k = (k-end ≤ length a) × (length a ≡ length b)

@@ -20,20 +20,6 @@ pub fn room(s: &mut [u8], from: usize, to: usize) -> &mut [u8] {
     s
 }
 
-pub fn first_words(s: &[u64], n: usize) -> &[u64] {
-    if n <= s.len() {
-        return &s[0..n];
-    }
-    s
-}
-
-pub fn first_floats(s: &[f64], n: usize) -> &[f64] {
-    if n <= s.len() {
-        return &s[0..n];
-    }
-    s
-}
-
 // The word at a place, or 0 where there is none.
 pub fn word(s: &[u8], at: u64) -> u64 {
     if 8 <= s.len() {

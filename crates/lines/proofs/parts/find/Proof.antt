@@ -2,8 +2,8 @@
 use borrow.Author.Needs.{needs}
 use Prim.Native.Nat.{_≤_, _-_}
 use lib.ListN.{length}
-use Rattle.block_cases.proofs.parts.find.Statement.{statement}
-use Rattle.block_cases.proofs.parts.find.Tie as tie
+use Rattle.lines.proofs.parts.find.Statement.{statement}
+use Rattle.lines.proofs.parts.find.Tie as tie
 
 abbrev Inv-loop : tie.InvT-loop
 Inv-loop s from byte i₀ i = (from ≤ i) × (i ≤ length s)
