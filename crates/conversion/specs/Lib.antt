@@ -2,3 +2,4 @@ pub mod Entry
 pub mod Shown
 pub mod Reach
 pub mod Cases
+pub mod Laid

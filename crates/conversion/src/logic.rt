@@ -1,10 +1,12 @@
 // One call checks an address and applies the conversion there to a value. Carries over the use of `resolve_all_dependencies_with_address`
 // and `apply_decoded` one after the other; the crate's `String` is a lent output here.
 //
-// A text is measured first and written in a second pass, so that a refusal leaves the output as it was.
+// A text is known, or measured, before it is written, so that a refusal leaves the output as it was: one that is a part of the image is copied
+// from there, and one that bit groups put together is written in a second pass.
 use common::refusal::Refusal;
 use common::refusal::Word;
 use engine::apply as apply_block;
+use pieces::paste::paste;
 use pieces::said::Said;
 use rules::number::Value;
 use steps::mode::Mode;
@@ -15,6 +17,7 @@ ghost use Rattle.tree.specs.Walk.{checked as checkedTree};
 ghost use Rattle.tree.specs.declared.Checked.the-variants.{Accepted};
 ghost use Rattle.steps.specs.Mode.{standard};
 ghost use Rattle.engine.specs.Apply.{applied as appliedTo};
+ghost use Rattle.conversion.specs.Laid.{SaidFits, Laid};
 ghost use Rattle.conversion.specs.Entry.{refusalOf, addressIn, call, settled, applying};
 
 // Document 01's answers.
@@ -56,6 +59,19 @@ pub struct Applied {
     pub applied: u32,
 }
 
+// Copies a text that is said as a part of the image. One that was put together stands in the output already.
+fn lay(image: &[u8], said: Said, out: &mut [u8])
+    requires { ⌜ SaidFits (now image) (now out) said ⌝ }
+    ensures { λ _. ⌜ Laid (now (image .entry)) (now (out .entry)) (now (out .exit)) said ⌝ }
+{
+    match said {
+        Said::Words(from, to) => {
+            paste(image, from, to, out, 0, to - from);
+        }
+        _ => {}
+    }
+}
+
 // After a check that was accepted with n visits.
 fn apply_checked(
     mode: Mode,
@@ -75,6 +91,23 @@ fn apply_checked(
     let applied = x.visits;
     let said = x.said;
     match said {
+        // A part of the image: copied once, with no second pass.
+        Said::Words(from, to) => {
+            let length = to - from;
+            if out.len() < length {
+                return Applied {
+                    answer: Answer::Refused(Refusal::Room),
+                    checked: n,
+                    applied,
+                };
+            }
+            lay(image, said, out);
+            Applied {
+                answer: Answer::Text(length),
+                checked: n,
+                applied,
+            }
+        }
         Said::Text(e) => {
             if out.len() < e {
                 return Applied {
@@ -83,7 +116,9 @@ fn apply_checked(
                     applied,
                 };
             }
-            apply_block(mode, image, address, value, text, 21, out, 0, e);
+            let y = apply_block(mode, image, address, value, text, 21, out, 0, e);
+            let again = y.said;
+            lay(image, again, out);
             Applied {
                 answer: Answer::Text(e),
                 checked: n,

@@ -15,7 +15,7 @@ use Rattle.rules.specs.declared.number.Value.{Value}
 use Rattle.pieces.specs.Write.{sat32, Wrote, Put}
 use Rattle.pieces.specs.Answer.{Answer, number, text, unchanged, unknown, formula, broken, prefixed}
 use Rattle.pieces.specs.Label.{bar}
-use Rattle.pieces.specs.Did.{saidOf, wordsOf}
+use Rattle.pieces.specs.Did.{Says, SaysText, laid, laidText, NoWords}
 use Rattle.pieces.specs.declared.said.Said.{Said}
 use Rattle.pieces.specs.declared.said.Said.the-variants as said
 use Rattle.pieces.specs.declared.said.Outcome.{Outcome}
@@ -56,6 +56,7 @@ pub record Halted (x : Answer) (G : Groups) (o p : List ℕ) (pos lim m : ℕ) :
 -- after one group more, by that group's word
 abbrev pub Grown : Said → Groups → List ℕ → List ℕ → ℕ → ℕ → ℕ → Bool → ℕ → Type 0
 Grown (said.Number x) G o p pos lim e started m = Sofar G o p pos lim e started m
+Grown (said.Words from to) G o p pos lim e started m = Unit {0}
 Grown (said.Text f) G o p pos lim e started m = Sofar G o p pos lim f true m
 Grown said.Unchanged G o p pos lim e started m = Sofar G o p pos lim e started m
 Grown said.Unknown G o p pos lim e started m = Sofar G o p pos lim e started m
@@ -70,28 +71,39 @@ both : (vs ws : List ℕ) (m u : ℕ) → m ≡ sat32 (length vs) → u ≡ sat3
 both vs ws m u k l = simp length-append (omega arith)
 
 module _ (ps : List (List ℕ)) (vs ws : List ℕ) (m u : ℕ) {o p q : List ℕ} {pos lim e : ℕ} (started : Bool) (fits : lim ≤ 18446744073709551615)
-    (put : Put o p pos lim (joined ps) e) (first : started ≡ some ps) (k : m ≡ sat32 (length vs)) (l : u ≡ sat32 (length ws)) where
+    (put : Put o p pos lim (joined ps) e) (first : started ≡ some ps) (h : m ≡ sat32 (length vs)) (l : u ≡ sat32 (length ws)) where
   stay : (G : Groups) → G ≡ going ps (vs ++ ws) → Wrote p q e lim [] → Sofar G o q pos lim e started (sat32 (m + u))
-  stay G is w = record { parts = ps; begun = vs ++ ws; is = is; first = first; count = both vs ws m u k l; put = keep fits put w }
+  stay G is w = record { parts = ps; begun = vs ++ ws; is = is; first = first; count = both vs ws m u h l; put = keep fits put w }
 
   halt : (x : Answer) → Wrote p q e lim [] → Halted x (halted x (vs ++ ws)) o q pos lim (sat32 (m + u))
-  halt x w = record { begun = vs ++ ws; is = refl; count = both vs ws m u k l; wrote = forget (keep fits put w .wrote) }
+  halt x w = record { begun = vs ++ ws; is = refl; count = both vs ws m u h l; wrote = forget (keep fits put w .wrote) }
 
-  pub grow : (x : Answer) → Wrote p q e lim (wordsOf (prefixed (bar started) x)) → Grown (saidOf e (prefixed (bar started) x)) (grown ps (vs ++ ws) x) o q pos lim e started (sat32 (m + u))
-  unfolding saidOf wordsOf
-  grow (number x) w = stay _ refl w
-  grow (text t) w = record {
+  -- a text, or no part of it
+  grow-text : (img t : List ℕ) (s : Said) → NoWords s → SaysText img e (bar started ++ t) s → Wrote p q e lim (laidText (bar started ++ t) s)
+      → Grown s (going (ps ++ (t ∷ [])) (vs ++ ws)) o q pos lim e started (sat32 (m + u))
+  grow-text img t (said.Number x) n k w = absurd k
+  grow-text img t (said.Words from to) n k w = absurd n
+  grow-text img t (said.Text f) n k w = record {
     parts = ps ++ (t ∷ []);
     begun = vs ++ ws;
     is = refl;
     first = sym (some-more ps t);
-    count = both vs ws m u k l;
-    put = rw (join-more ps t, ← first) (then fits put (record { end = refl; wrote = w }));
+    count = both vs ws m u h l;
+    put = rw (join-more ps t, ← first) (then fits put (record { end = k; wrote = w }));
   }
-  grow unchanged w = stay _ refl w
-  grow unknown w = stay _ refl w
-  grow formula w = halt formula w
-  grow broken w = halt broken w
+  grow-text img t said.Unchanged n k w = absurd k
+  grow-text img t said.Unknown n k w = absurd k
+  grow-text img t said.Formula n k w = absurd k
+  grow-text img t said.Broken n k w = absurd k
+
+  pub grow : (img : List ℕ) (x : Answer) (s : Said) → NoWords s → Says img e (prefixed (bar started) x) s → Wrote p q e lim (laid (prefixed (bar started) x) s)
+      → Grown s (grown ps (vs ++ ws) x) o q pos lim e started (sat32 (m + u))
+  grow img (number x) s n says w = rw says (stay _ refl w)
+  grow img (text t) s n says w = grow-text img t s n says w
+  grow img unchanged s n says w = rw says (stay _ refl w)
+  grow img unknown s n says w = rw says (stay _ refl w)
+  grow img formula s n says w = rw says (halt formula w)
+  grow img broken s n says w = rw says (halt broken w)
 
 module _ (nested : ℕ → Value → Ap) (img : List ℕ) (b : Block) (bits : ℕ) where
   pub start : (o : List ℕ) (pos lim : ℕ) → Put o o pos lim [] pos → Sofar (groups nested img b bits 0) o o pos lim pos false 0
@@ -100,13 +112,13 @@ module _ (nested : ℕ → Value → Ap) (img : List ℕ) (b : Block) (bits : �
 
   pub turn : (i m w : ℕ) (l : Lead) (x : Said) {o p q : List ℕ} {pos lim e k : ℕ} {started : Bool} {y : Outcome} → lim ≤ 18446744073709551615
       → Sofar (groups nested img b bits i) o p pos lim e started k → l ≡ leadAt img b i → w ≡ maskAt img b i
-      → Does p q e lim (afterBar started (partOf nested img l (bitAnd bits w))) y → m ≡ sat32 (k + y .visits) → y .said ≡ x
+      → Does img p q e lim (afterBar started (partOf nested img l (bitAnd bits w))) y → NoWords (y .said) → m ≡ sat32 (k + y .visits) → y .said ≡ x
       → Grown x (groups nested img b bits (i + 1)) o q pos lim e started m
   unfolding groups
-  turn i m w l x {k = k} {started = started} {y = y} fits at hl hw did hm told =
+  turn i m w l x {k = k} {started = started} {y = y} fits at hl hw did plain hm told =
       let part = partOf nested img l (bitAnd bits w) in
-      rw (← told, did .says, hm, add-one, at .is, ← hl, ← hw)
-      (grow (at .parts) (at .begun) (part .begun) k (y .visits) started fits (at .put) (at .first) (at .count) (did .count) (part .says) (did .wrote))
+      rw (← told, hm, add-one, at .is, ← hl, ← hw)
+      (grow (at .parts) (at .begun) (part .begun) k (y .visits) started fits (at .put) (at .first) (at .count) (did .count) img (part .says) (y .said) plain (did .says) (did .wrote))
 
   stays : (i j : ℕ) (x : Answer) (vs : List ℕ) → groups nested img b bits i ≡ halted x vs → groups nested img b bits (i + j) ≡ halted x vs
   unfolding groups
@@ -115,7 +127,7 @@ module _ (nested : ℕ → Value → Ap) (img : List ℕ) (b : Block) (bits : �
 
   -- the loop is left: at a stop, or at its end
   pub stop : (i n : ℕ) (x : Answer) {o p : List ℕ} {pos lim m : ℕ} {r : Outcome} → i < n → n ≡ groupCount b → Halted x (groups nested img b bits (i + 1)) o p pos lim m
-      → r .said ≡ saidOf pos x → r .visits ≡ m → wordsOf x ≡ [] → Does o p pos lim (bitGroups nested img b bits) r
+      → Says img pos x (r .said) → r .visits ≡ m → laid x (r .said) ≡ [] → Does img o p pos lim (bitGroups nested img b bits) r
   unfolding bitGroups
   stop i n x h e at told count none =
       let q : i + 1 + (n - (i + 1)) ≡ n = omega arith in
@@ -123,6 +135,6 @@ module _ (nested : ℕ → Value → Ap) (img : List ℕ) (b : Block) (bits : �
       (record { says = told; count = count ∙ at .count; wrote = rw none (at .wrote) })
 
   pub finish : (i n : ℕ) {o p : List ℕ} {pos lim e m : ℕ} {started : Bool} → i ≡ n → n ≡ groupCount b → Sofar (groups nested img b bits i) o p pos lim e started m
-      → Does o p pos lim (bitGroups nested img b bits) (record { said = said.Text e; visits = m })
-  unfolding bitGroups saidOf wordsOf
-  finish i n h e at = rw (← e, ← h, at .is) (record { says = ap said.Text (at .put .end); count = at .count; wrote = at .put .wrote })
+      → Does img o p pos lim (bitGroups nested img b bits) (record { said = said.Text e; visits = m })
+  unfolding bitGroups
+  finish i n h e at = rw (← e, ← h, at .is) (record { says = at .put .end; count = at .count; wrote = at .put .wrote })

@@ -121,5 +121,5 @@ applied (suc d) mode img t a v = begin a (ruled (applied d mode img t) img v (st
 abbrev pub afterBar : Bool → Ap → Ap
 afterBar started x = prefixedAp (bar started) x
 
-abbrev pub Does : List ℕ → List ℕ → ℕ → ℕ → Ap → Outcome → Type 0
-Does o p pos lim x r = Did o p pos lim (x .says) (length (x .begun)) r
+abbrev pub Does : List ℕ → List ℕ → List ℕ → ℕ → ℕ → Ap → Outcome → Type 0
+Does img o p pos lim x r = Did img o p pos lim (x .says) (length (x .begun)) r

@@ -2,7 +2,8 @@
 // `bit_groups`, which call `apply` on nested blocks with one level less. Carries over `apply_decoded` of logic.rs, the text rules of text.rs
 // and bitfield.rs.
 //
-// Every function measures and writes: see crate `pieces`. The engine is total over every image; a block that cannot be opened stops it, which
+// Only bit groups write: a text that is a part of the image is said as that part. They measure and write by the same functions, see crate
+// `pieces`. The engine is total over every image; a block that cannot be opened stops it, which
 // an accepted check rules out.
 use blocks::Block;
 use common::refusal::Word;
@@ -14,7 +15,7 @@ use pieces::paste::add_visits;
 use pieces::paste::paste;
 use pieces::said::Outcome;
 use pieces::said::Said;
-use pieces::said::spell;
+use pieces::said::told;
 use rules::number::Value;
 use steps::choice::Choice;
 use steps::choice::chosen_key;
@@ -29,9 +30,7 @@ ghost use Rattle.leads.specs.Lead.{Inside};
 ghost use Rattle.rules.specs.Numbers.{taken};
 ghost use Rattle.steps.specs.Fits.{Fits};
 ghost use Rattle.steps.specs.Choice.{chosenKey, chosenRange, ChoiceIn};
-ghost use Rattle.pieces.specs.Answer.{prefixed};
-ghost use Rattle.pieces.specs.Did.{Did};
-ghost use Rattle.pieces.specs.Label.{bar};
+ghost use Rattle.pieces.specs.Did.{NoWords};
 ghost use Rattle.engine.specs.Apply.{maskAt, groupCount, applied, passedOn, partOf, afterBar, bitGroups, Does};
 
 // How many groups a block has: a group has a mask and a reference.
@@ -66,7 +65,7 @@ pub fn apply(
     lim: usize,
 ) -> Outcome
     requires { ⌜ (lim ≤ length (now out)) × (at + 24 ≤ length (now image)) ⌝ }
-    ensures { λ r. ⌜ Does (now (out .entry)) (now (out .exit)) pos lim (applied left mode (now (image .entry)) (now (text .entry)) at v) r ⌝ }
+    ensures { λ r. ⌜ Does (now (image .entry)) (now (out .entry)) (now (out .exit)) pos lim (applied left mode (now (image .entry)) (now (text .entry)) at v) r ⌝ }
 {
     if left == 0 {
         return Outcome::quiet(Said::Broken).counted();
@@ -86,7 +85,7 @@ pub fn apply(
             pos,
             lim,
         ).counted(),
-        Step::Done(p) => spell(image, p, out, pos, lim).counted(),
+        Step::Done(p) => told(p).counted(),
     }
 }
 
@@ -103,7 +102,7 @@ fn value_to_text(
     lim: usize,
 ) -> Outcome
     requires { ⌜ (lim ≤ length (now out)) × Fits (now image) b ⌝ }
-    ensures { λ r. ⌜ Does (now (out .entry)) (now (out .exit)) pos lim
+    ensures { λ r. ⌜ Does (now (image .entry)) (now (out .entry)) (now (out .exit)) pos lim
         (passedOn (applied left mode (now (image .entry)) (now (text .entry))) (now (image .entry)) v (chosenKey (now (image .entry)) b (taken v))) r ⌝ }
 {
     let c = chosen_key(image, b, v);
@@ -123,7 +122,7 @@ fn range_to_text(
     lim: usize,
 ) -> Outcome
     requires { ⌜ (lim ≤ length (now out)) × Fits (now image) b ⌝ }
-    ensures { λ r. ⌜ Does (now (out .entry)) (now (out .exit)) pos lim
+    ensures { λ r. ⌜ Does (now (image .entry)) (now (out .entry)) (now (out .exit)) pos lim
         (passedOn (applied left mode (now (image .entry)) (now (text .entry))) (now (image .entry)) v (chosenRange (now (image .entry)) b (taken v))) r ⌝ }
 {
     let c = chosen_range(image, b, v);
@@ -143,12 +142,12 @@ fn pass_on(
     lim: usize,
 ) -> Outcome
     requires { ⌜ (lim ≤ length (now out)) × ChoiceIn (now image) c ⌝ }
-    ensures { λ r. ⌜ Does (now (out .entry)) (now (out .exit)) pos lim
+    ensures { λ r. ⌜ Does (now (image .entry)) (now (out .entry)) (now (out .exit)) pos lim
         (passedOn (applied left mode (now (image .entry)) (now (text .entry))) (now (image .entry)) v c) r ⌝ }
 {
     match c {
         Choice::Nested(at) => apply(mode, image, at, v, text, left, out, pos, lim),
-        Choice::Done(p) => spell(image, p, out, pos, lim),
+        Choice::Done(p) => told(p),
     }
 }
 
@@ -167,8 +166,8 @@ fn part(
     lim: usize,
 ) -> Outcome
     requires { ⌜ (lim ≤ length (now out)) × Inside (now image) lead ⌝ }
-    ensures { λ r. ⌜ Does (now (out .entry)) (now (out .exit)) pos lim
-        (afterBar started (partOf (applied left mode (now (image .entry)) (now (text .entry))) (now (image .entry)) lead masked)) r ⌝ }
+    ensures { λ r. ⌜ Does (now (image .entry)) (now (out .entry)) (now (out .exit)) pos lim
+        (afterBar started (partOf (applied left mode (now (image .entry)) (now (text .entry))) (now (image .entry)) lead masked)) r × NoWords (r .said) ⌝ }
 {
     match lead {
         Lead::Words(from, to) => {
@@ -178,7 +177,7 @@ fn part(
         }
         Lead::Nested(at) => {
             let p = paste_label(image, at, started, out, pos, lim);
-            apply(
+            let x = apply(
                 mode,
                 image,
                 at,
@@ -188,7 +187,18 @@ fn part(
                 out,
                 p,
                 lim,
-            )
+            );
+            let said = x.said;
+            match said {
+                Said::Words(from, to) => {
+                    let e = paste(image, from, to, out, p, lim);
+                    Outcome {
+                        said: Said::Text(e),
+                        visits: x.visits,
+                    }
+                }
+                _ => x,
+            }
         }
         Lead::Nil => Outcome::quiet(Said::Unchanged),
         Lead::Elsewhere => Outcome::quiet(Said::Unchanged),
@@ -208,7 +218,7 @@ fn bit_groups(
     lim: usize,
 ) -> Outcome
     requires { ⌜ lim ≤ length (now out) ⌝ }
-    ensures { λ r. ⌜ Does (now (out .entry)) (now (out .exit)) pos lim
+    ensures { λ r. ⌜ Does (now (image .entry)) (now (out .entry)) (now (out .exit)) pos lim
         (bitGroups (applied left mode (now (image .entry)) (now (text .entry))) (now (image .entry)) b bits) r ⌝ }
 {
     let n = group_count(b);
@@ -240,6 +250,8 @@ fn bit_groups(
                 };
             }
             Said::Number(_) => {}
+            // Not met: a part is spelled out.
+            Said::Words(_, _) => {}
             Said::Unchanged => {}
             Said::Unknown => {}
         }

@@ -1,18 +1,16 @@
-// What an application says, with the blocks that it began; and a plain answer spelled into the output.
+// What an application says, with the blocks that it began.
 use crate::paste::add_visits;
-use crate::paste::paste;
 use steps::plain::Plain;
 ghost use mathlib.Core.Path.{_≡_};
-ghost use Prim.Native.Nat.{_+_, _≤_};
-ghost use lib.ListN.{length};
-ghost use Rattle.steps.specs.Plain.{PlainIn};
-ghost use Rattle.pieces.specs.Answer.{answerOf};
-ghost use Rattle.pieces.specs.Did.{Did};
+ghost use Prim.Native.Nat.{_+_};
+ghost use Rattle.pieces.specs.Did.{toldOf};
 ghost use Rattle.pieces.specs.Write.{sat32};
 
-// A text is said by the place behind it. `Formula` and `Broken` stop the application.
+// A text is said as the part of the image that it is, with nothing written, or, where it was put together, by the place behind it. `Formula` and
+// `Broken` stop the application.
 pub enum Said {
     Number(f64),
+    Words(usize, usize),
     Text(usize),
     Unchanged,
     Unknown,
@@ -43,20 +41,34 @@ impl Outcome {
     }
 }
 
-// A plain answer; only a text is written.
-pub fn spell(image: &[u8], p: Plain, out: &mut [u8], pos: usize, lim: usize) -> Outcome
-    requires { ⌜ (lim ≤ length (now out)) × PlainIn (now image) p ⌝ }
-    ensures { λ r. ⌜ Did (now (out .entry)) (now (out .exit)) pos lim (answerOf (now (image .entry)) p) 0 r ⌝ }
+// A plain answer as it is said.
+pub fn told(p: Plain) -> Outcome
+    ensures { λ r. ⌜ r ≡ toldOf p ⌝ }
 {
     match p {
-        Plain::Number(x) => Outcome::quiet(Said::Number(x)),
-        Plain::Words(from, to) => {
-            let e = paste(image, from, to, out, pos, lim);
-            Outcome::quiet(Said::Text(e))
-        }
-        Plain::Unchanged => Outcome::quiet(Said::Unchanged),
-        Plain::Unknown => Outcome::quiet(Said::Unknown),
-        Plain::Formula => Outcome::quiet(Said::Formula),
-        Plain::Broken => Outcome::quiet(Said::Broken),
+        Plain::Number(x) => Outcome {
+            said: Said::Number(x),
+            visits: 0,
+        },
+        Plain::Words(from, to) => Outcome {
+            said: Said::Words(from, to),
+            visits: 0,
+        },
+        Plain::Unchanged => Outcome {
+            said: Said::Unchanged,
+            visits: 0,
+        },
+        Plain::Unknown => Outcome {
+            said: Said::Unknown,
+            visits: 0,
+        },
+        Plain::Formula => Outcome {
+            said: Said::Formula,
+            visits: 0,
+        },
+        Plain::Broken => Outcome {
+            said: Said::Broken,
+            visits: 0,
+        },
     }
 }

@@ -1,10 +1,10 @@
 -- The answers of `engine::apply`. Assumes nothing.
-use mathlib.Core.Path.{subst}
+use Rattle.pieces.proofs.Answers.{told-as, quiet-did}
+use mathlib.Core.Path.{refl, subst}
 use denote.Ref.{now}
 use Rattle.steps.specs.Step.{StepIn}
 use Rattle.pieces.specs.Answer.{broken}
-use Rattle.pieces.specs.Did.{saidOf, wordsOf}
-use Rattle.pieces.proofs.Laws.{none}
+use Rattle.pieces.proofs.Answers.{told-as, quiet-did}
 use Rattle.engine.specs.Apply.{applied}
 use Rattle.engine.proofs.Levels.{level, one-more}
 use Prim.Native.Nat.{ℕ, _-_}
@@ -21,9 +21,9 @@ pub apply-counted-requires : (t : ℕ) → apply-lts.Need-counted-requires (appl
 apply-counted-requires t c κs = search needs
 
 pub apply-returns : (t : ℕ) → apply-lts.Need-returns (apply-calls t) (apply-at t) apply.Post
-unfolding applied saidOf wordsOf
+unfolding applied
 apply-returns t c = rw (c .before .before .if1 .taken)
-    (one-more {n = 0} {x = broken} (record { says = c .before .quiet .ensures .0; count = c .before .quiet .ensures .1; wrote = none _ _ _ }) (c .counted .ensures .0) (c .counted .ensures .1))
+    (one-more {n = 0} {x = broken} (quiet-did broken _ _ _ (c .before .quiet .ensures .0) (c .before .quiet .ensures .1) refl) (c .counted .ensures .0) (c .counted .ensures .1))
 
 pub apply-sub-below : (t : ℕ) → apply-lts.Need-sub-below (apply-calls t) (apply-at t) apply.Post
 apply-sub-below t c = search needs
@@ -63,8 +63,8 @@ apply-counted-requires-4 t c κs = search needs
 pub apply-enum-known-p : (t : ℕ) → apply-lts.Need-enum-known-p (apply-calls t) (apply-at t) apply.Post
 apply-enum-known-p t c = search needs
 
-pub apply-spell-requires : (t : ℕ) → apply-lts.Need-spell-requires (apply-calls t) (apply-at t) apply.Post
-apply-spell-requires t c κs = (omega arith, subst (StepIn (now (c .before .before .before .before .before .before .before .before .before .args .image))) (c .before .before .p .given .1) (c .before .before .before .before .step-at .ensures .1))
+pub apply-told-requires : (t : ℕ) → apply-lts.Need-told-requires (apply-calls t) (apply-at t) apply.Post
+apply-told-requires t c κs = search needs
 
 pub apply-counted-requires-5 : (t : ℕ) → apply-lts.Need-counted-requires-5 (apply-calls t) (apply-at t) apply.Post
 apply-counted-requires-5 t c κs = search needs
@@ -90,9 +90,8 @@ pub apply-returns-4 : (t : ℕ) → apply-lts.Need-returns-4 (apply-calls t) (ap
 apply-returns-4 t c = rw (level _ _ _ _ _ _ (c .before .before .before .before .before .before .before .before .before .if1 .left), ← (c .before .before .before .before .before .before .before .before .step-at .ensures .0), c .before .before .before .before .before .before .b3 .given .1)
     (one-more (c .before .before .before .bit-groups .ensures) (c .counted4 .ensures .0) (c .counted4 .ensures .1))
 
-pub apply-same-length-4 : (t : ℕ) → apply-lts.Need-same-length-4 (apply-calls t) (apply-at t) apply.Post
-apply-same-length-4 t c = search needs
-
 pub apply-returns-5 : (t : ℕ) → apply-lts.Need-returns-5 (apply-calls t) (apply-at t) apply.Post
-apply-returns-5 t c = rw (level _ _ _ _ _ _ (c .before .before .before .before .before .before .before .before .before .if1 .left), ← (c .before .before .before .before .before .before .before .before .step-at .ensures .0), c .before .before .before .before .before .before .p .given .1)
-    (one-more (c .before .before .before .spell .ensures) (c .counted5 .ensures .0) (c .counted5 .ensures .1))
+apply-returns-5 t c = let img = now (c .before .before .before .before .before .before .before .before .before .before .args .image) in
+    let lies = subst (StepIn img) (c .before .before .before .p .given .1) (c .before .before .before .before .before .step-at .ensures .1) in
+    rw (level _ _ _ _ _ _ (c .before .before .before .before .before .before .if1 .left), ← (c .before .before .before .before .before .step-at .ensures .0), c .before .before .before .p .given .1)
+    (one-more (told-as img (now (c .before .before .before .before .before .before .before .before .before .before .args .out)) (c .before .before .before .before .before .before .before .before .before .before .args .pos) (c .before .before .before .before .before .before .before .before .before .before .args .lim) (c .before .before .before .p .given .0 .0) lies (c .before .told .ensures)) (c .counted5 .ensures .0) (c .counted5 .ensures .1))

@@ -8,7 +8,7 @@ use Rattle.leads.proofs.Leads.{lead-at-inside}
 use Rattle.pieces.specs.Answer.{formula, broken}
 use Rattle.pieces.specs.declared.said.Said.{Said}
 use Rattle.pieces.specs.declared.said.Said.the-variants as said
-use Rattle.pieces.specs.Did.{saidOf, wordsOf}
+use Rattle.pieces.specs.Did.{NoWords}
 use Rattle.pieces.proofs.Laws.{empty}
 use Rattle.engine.specs.Apply.{applied, groups}
 use Rattle.engine.proofs.Groups.{Sofar, Grown, start, turn, stop, finish}
@@ -61,13 +61,12 @@ bit-groups-turn t c x told =
     let a = c .before .before .before .before .before .before .before .before .before .before .before .before .before .args in
     let l = c .before .before .before .before .before .before .before .before .loop in
     turn (applied (a .left) (a .mode) (a .image .now) (a .text .now)) (a .image .now) (a .b) (a .bits) (l .i) (c .add-visits .result) (c .before .before .before .before .before .mask-at .result) (c .before .before .before .before .before .before .lead-at .result) x
-    (omega arith) (l .inv .1) (c .before .before .before .before .before .before .lead-at .ensures) (c .before .before .before .before .before .mask-at .ensures) (c .before .before .before .part .ensures) (c .add-visits .ensures) told
+    (omega arith) (l .inv .1) (c .before .before .before .before .before .before .lead-at .ensures) (c .before .before .before .before .before .mask-at .ensures) (c .before .before .before .part .ensures .0) (c .before .before .before .part .ensures .1) (c .add-visits .ensures) told
 
 pub bit-groups-same-length : (t : ℕ) → bit-groups-lts.Need-same-length (bit-groups-calls t) (bit-groups-at t) bit-groups.Post bit-groups-Inv-loop bit-groups-μ-loop
 bit-groups-same-length t c = bit-groups-turn t (c .before .before) said.Formula (c .enum-told .given .1) .wrote .same
 
 pub bit-groups-returns : (t : ℕ) → bit-groups-lts.Need-returns (bit-groups-calls t) (bit-groups-at t) bit-groups.Post bit-groups-Inv-loop bit-groups-μ-loop
-unfolding saidOf wordsOf
 bit-groups-returns t c = stop _ _ _ _ (c .before .before .before .before .before .before .before .before .before .before .loop .i) (c .before .before .before .before .before .before .before .before .before .before .before .group-count .result) formula (c .before .before .before .before .before .before .before .before .before .loop-test .taken) (c .before .before .before .before .before .before .before .before .before .before .before .group-count .ensures) (bit-groups-turn t (c .before .before) said.Formula (c .enum-told .given .1)) refl refl refl
 
 pub bit-groups-enum-told-2 : (t : ℕ) → bit-groups-lts.Need-enum-told-2 (bit-groups-calls t) (bit-groups-at t) bit-groups.Post bit-groups-Inv-loop bit-groups-μ-loop
@@ -77,7 +76,6 @@ pub bit-groups-same-length-2 : (t : ℕ) → bit-groups-lts.Need-same-length-2 (
 bit-groups-same-length-2 t c = bit-groups-turn t (c .before .before) said.Broken (c .enum-told2 .given .1) .wrote .same
 
 pub bit-groups-returns-2 : (t : ℕ) → bit-groups-lts.Need-returns-2 (bit-groups-calls t) (bit-groups-at t) bit-groups.Post bit-groups-Inv-loop bit-groups-μ-loop
-unfolding saidOf wordsOf
 bit-groups-returns-2 t c = stop _ _ _ _ (c .before .before .before .before .before .before .before .before .before .before .loop .i) (c .before .before .before .before .before .before .before .before .before .before .before .group-count .result) broken (c .before .before .before .before .before .before .before .before .before .loop-test .taken) (c .before .before .before .before .before .before .before .before .before .before .before .group-count .ensures) (bit-groups-turn t (c .before .before) said.Broken (c .enum-told2 .given .1)) refl refl refl
 
 pub bit-groups-enum-told-3 : (t : ℕ) → bit-groups-lts.Need-enum-told-3 (bit-groups-calls t) (bit-groups-at t) bit-groups.Post bit-groups-Inv-loop bit-groups-μ-loop
@@ -88,6 +86,9 @@ bit-groups-enum-told-4 t c = search needs
 
 pub bit-groups-enum-told-5 : (t : ℕ) → bit-groups-lts.Need-enum-told-5 (bit-groups-calls t) (bit-groups-at t) bit-groups.Post bit-groups-Inv-loop bit-groups-μ-loop
 bit-groups-enum-told-5 t c = search needs
+
+pub bit-groups-enum-told-6 : (t : ℕ) → bit-groups-lts.Need-enum-told-6 (bit-groups-calls t) (bit-groups-at t) bit-groups.Post bit-groups-Inv-loop bit-groups-μ-loop
+bit-groups-enum-told-6 t c = search needs
 
 pub bit-groups-add-i : (t : ℕ) → bit-groups-lts.Need-add-i (bit-groups-calls t) (bit-groups-at t) bit-groups.Post bit-groups-Inv-loop bit-groups-μ-loop
 bit-groups-add-i t c = search needs
@@ -103,8 +104,10 @@ bit-groups-loop-again t c = (
       (⊎-elim
       (λ w. rw (w .2, w .3) (bit-groups-turn t (c .before) (said.Number _) (w .1 .given .1)))
       (⊎-elim
+      (λ w. absurd (subst NoWords (w .1 .given .1) (c .before .before .before .before .part .ensures .1)))
+      (⊎-elim
       (λ w. rw (w .2, w .3) (bit-groups-turn t (c .before) said.Unchanged (w .1 .given .1)))
-      (λ w. rw (w .2, w .3) (bit-groups-turn t (c .before) said.Unknown (w .1 .given .1)))))
+      (λ w. rw (w .2, w .3) (bit-groups-turn t (c .before) said.Unknown (w .1 .given .1))))))
       (c .match .came),
 )
 

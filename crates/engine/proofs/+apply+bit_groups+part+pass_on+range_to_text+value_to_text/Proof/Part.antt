@@ -1,18 +1,25 @@
 -- The answers of `engine::part`. Assumes nothing.
-use Rattle.pieces.specs.Label.{bar}
-use mathlib.Core.Path.{subst}
+use Rattle.pieces.proofs.Answers.{put-did, quiet-did, pasted-did, SaidIn, did-in, no-words}
+use mathlib.Core.Path.{refl, sym, subst}
 use denote.Ref.{now}
 use Rattle.leads.specs.Lead.{Inside}
-use Rattle.pieces.specs.Did.{saidOf, wordsOf}
-use Rattle.pieces.proofs.Laws.{none, then}
-use Rattle.pieces.proofs.Answers.{put-did}
+use Rattle.pieces.specs.Answer.{unchanged}
+use Rattle.pieces.specs.Did.{NoWords}
+use Rattle.pieces.specs.Label.{bar}
+use Rattle.pieces.proofs.Laws.{then}
+use Rattle.pieces.proofs.Answers.{put-did, quiet-did, pasted-did, SaidIn, did-in, no-words}
 use Rattle.engine.proofs.Levels.{labelled-did}
-use Prim.Native.Nat.{ℕ, _-_}
+use Prim.Native.Nat.{_≤_}
+use Prim.Native.Nat.{ℕ, _-_, _≤_}
 use borrow.Author.Needs.{needs}
 use native.Mathlib.Omega.{arith}
 use Rattle.engine.proofs.part.Reads as part
 use Rattle.engine.proofs.+apply+bit_groups+part+pass_on+range_to_text+value_to_text.Lts-part as part-lts
 use Rattle.engine.proofs.+apply+bit_groups+part+pass_on+range_to_text+value_to_text.Proof.Shared.{part-at, part-calls}
+
+-- the limit, seen from where the output is first known
+part-lim : (t : ℕ) (c : part-lts.After-slice-known (part-calls t) (part-at t) part.Post) → c .before .before .before .args .lim ≤ 18446744073709551615
+part-lim t c = omega arith
 
 pub part-enum-known-lead : (t : ℕ) → part-lts.Need-enum-known-lead (part-calls t) (part-at t) part.Post
 part-enum-known-lead t c = search needs
@@ -36,6 +43,13 @@ part-paste-label-requires t c κs = (omega arith, subst (Inside (now (c .before 
 pub part-apply-requires : (t : ℕ) → part-lts.Need-apply-requires (part-calls t) (part-at t) part.Post
 part-apply-requires t c κs = (omega arith, (omega (arith, c .before .before .before .paste-label .ensures .wrote .same), subst (Inside (now (c .before .before .before .before .before .before .before .before .before .before .before .args .image))) (c .before .before .before .before .before .before .lead2 .given .1) (c .before .before .before .before .before .before .before .before .before .before .before .pre .1 .1)))
 
+pub part-enum-known-said : (t : ℕ) → part-lts.Need-enum-known-said (part-calls t) (part-at t) part.Post
+part-enum-known-said t c = search needs
+
+pub part-paste-requires-2 : (t : ℕ) → part-lts.Need-paste-requires-2 (part-calls t) (part-at t) part.Post
+part-paste-requires-2 t c κs = let lies = subst (SaidIn (now (c .before .before .before .before .before .before .before .before .before .before .before .before .before .before .before .before .before .before .args .image))) (c .before .before .said .given .1) (did-in (c .before .before .before .before .before .before .apply .ensures)) in
+    (omega (arith, c .before .before .before .before .before .before .before .before .before .before .paste-label .ensures .wrote .same, c .before .before .before .before .before .before .apply .ensures .wrote .same), lies .0, lies .1)
+
 pub part-enum-told : (t : ℕ) → part-lts.Need-enum-told (part-calls t) (part-at t) part.Post
 part-enum-told t c = search needs
 
@@ -53,18 +67,27 @@ part-same-length t c = search needs
 
 pub part-returns : (t : ℕ) → part-lts.Need-returns (part-calls t) (part-at t) part.Post
 part-returns t c = rw (c .before .before .before .before .before .before .before .before .before .before .lead .given .1)
-    (put-did (c .quiet .ensures .0) (c .quiet .ensures .1) (then (omega arith) (c .before .before .before .before .before .before .before .paste-bar .ensures) (c .before .before .before .paste .ensures)))
+    (put-did (c .quiet .ensures .0) (c .quiet .ensures .1) (then (omega arith) (c .before .before .before .before .before .before .before .paste-bar .ensures) (c .before .before .before .paste .ensures)), subst NoWords (sym (c .quiet .ensures .0)) tt)
 
 pub part-same-length-2 : (t : ℕ) → part-lts.Need-same-length-2 (part-calls t) (part-at t) part.Post
 part-same-length-2 t c = search needs
 
 pub part-returns-2 : (t : ℕ) → part-lts.Need-returns-2 (part-calls t) (part-at t) part.Post
-part-returns-2 t c = rw (c .before .before .before .before .before .before .before .before .before .lead2 .given .1) (labelled-did (bar (c .before .before .before .before .before .before .before .before .before .before .before .before .before .before .args .started)) _ _ (omega arith) (c .before .before .before .before .before .before .paste-label .ensures) (c .before .before .apply .ensures))
+part-returns-2 t c = rw (c .before .before .before .before .before .before .before .before .before .before .before .before .before .before .before .before .lead2 .given .1) (
+  labelled-did (bar (c .before .before .before .before .before .before .before .before .before .before .before .before .before .before .before .before .before .before .before .before .before .args .started)) _ _ (part-lim t (c .before .before .before .before .before .before .before .before .before .before .before .before .before .before .before .before .before .before)) tt (c .before .before .before .before .before .before .before .before .before .before .before .before .before .paste-label .ensures)
+      (pasted-did _ _ _ (part-lim t (c .before .before .before .before .before .before .before .before .before .before .before .before .before .before .before .before .before .before)) (omega (arith, c .before .before .before .before .before .before .before .before .before .before .before .before .before .paste-label .ensures .end)) (c .before .before .before .before .before .before .before .before .before .apply .ensures) (c .before .before .before .before .before .said .given .1) (c .before .before .paste2 .ensures) refl refl),
+  tt,
+)
+
+pub part-same-length-3 : (t : ℕ) → part-lts.Need-same-length-3 (part-calls t) (part-at t) part.Post
+part-same-length-3 t c = search needs
 
 pub part-returns-3 : (t : ℕ) → part-lts.Need-returns-3 (part-calls t) (part-at t) part.Post
-unfolding saidOf wordsOf
-part-returns-3 t c = rw (c .before .enum-told .given .1) (record { says = c .quiet2 .ensures .0; count = c .quiet2 .ensures .1; wrote = none _ _ _ })
+part-returns-3 t c = let plain = no-words (c .before .before .before .apply .result .said) (c .match2 .keys2) in
+    rw (c .before .before .before .before .before .before .before .before .before .before .lead2 .given .1) (labelled-did (bar (c .before .before .before .before .before .before .before .before .before .before .before .before .before .before .before .args .started)) _ _ (omega arith) plain (c .before .before .before .before .before .before .before .paste-label .ensures) (c .before .before .before .apply .ensures), plain)
 
 pub part-returns-4 : (t : ℕ) → part-lts.Need-returns-4 (part-calls t) (part-at t) part.Post
-unfolding saidOf wordsOf
-part-returns-4 t c = rw (c .before .enum-told2 .given .1) (record { says = c .quiet3 .ensures .0; count = c .quiet3 .ensures .1; wrote = none _ _ _ })
+part-returns-4 t c = rw (c .before .enum-told .given .1) (quiet-did unchanged _ _ _ (c .quiet2 .ensures .0) (c .quiet2 .ensures .1) refl, subst NoWords (sym (c .quiet2 .ensures .0)) tt)
+
+pub part-returns-5 : (t : ℕ) → part-lts.Need-returns-5 (part-calls t) (part-at t) part.Post
+part-returns-5 t c = rw (c .before .enum-told2 .given .1) (quiet-did unchanged _ _ _ (c .quiet3 .ensures .0) (c .quiet3 .ensures .1) refl, subst NoWords (sym (c .quiet3 .ensures .0)) tt)

@@ -1,7 +1,9 @@
 -- The answers of `engine::pass_on`, `engine::value_to_text` and `engine::range_to_text`. Assumes nothing.
+use Rattle.pieces.proofs.Answers.{told-as}
 use mathlib.Core.Path.{subst}
 use denote.Ref.{now}
 use Rattle.steps.specs.Choice.{ChoiceIn}
+use Rattle.pieces.proofs.Answers.{told-as}
 use Prim.Native.Nat.{ℕ, _-_}
 use borrow.Author.Needs.{needs}
 use native.Mathlib.Omega.{arith}
@@ -22,8 +24,8 @@ pass-on-apply-requires t c κs = (omega arith, (omega arith, subst (ChoiceIn (no
 pub pass-on-enum-known-c-2 : (t : ℕ) → pass-on-lts.Need-enum-known-c-2 (pass-on-calls t) (pass-on-at t) pass-on.Post
 pass-on-enum-known-c-2 t c = search needs
 
-pub pass-on-spell-requires : (t : ℕ) → pass-on-lts.Need-spell-requires (pass-on-calls t) (pass-on-at t) pass-on.Post
-pass-on-spell-requires t c κs = (omega arith, subst (ChoiceIn (now (c .before .before .before .before .before .before .before .args .image))) (c .before .before .c2 .given .1) (c .before .before .before .before .before .before .before .pre .1 .1))
+pub pass-on-told-requires : (t : ℕ) → pass-on-lts.Need-told-requires (pass-on-calls t) (pass-on-at t) pass-on.Post
+pass-on-told-requires t c κs = search needs
 
 pub pass-on-same-length : (t : ℕ) → pass-on-lts.Need-same-length (pass-on-calls t) (pass-on-at t) pass-on.Post
 pass-on-same-length t c = search needs
@@ -31,11 +33,11 @@ pass-on-same-length t c = search needs
 pub pass-on-returns : (t : ℕ) → pass-on-lts.Need-returns (pass-on-calls t) (pass-on-at t) pass-on.Post
 pass-on-returns t c = rw (c .before .before .before .before .before .c .given .1) (c .before .before .apply .ensures)
 
-pub pass-on-same-length-2 : (t : ℕ) → pass-on-lts.Need-same-length-2 (pass-on-calls t) (pass-on-at t) pass-on.Post
-pass-on-same-length-2 t c = search needs
-
 pub pass-on-returns-2 : (t : ℕ) → pass-on-lts.Need-returns-2 (pass-on-calls t) (pass-on-at t) pass-on.Post
-pass-on-returns-2 t c = rw (c .before .before .before .before .before .c2 .given .1) (c .before .before .spell .ensures)
+pass-on-returns-2 t c = let img = now (c .before .before .before .before .before .before .before .args .image) in
+    let lies = subst (ChoiceIn img) (c .before .before .c2 .given .1) (c .before .before .before .before .before .before .before .pre .1 .1) in
+    rw (c .before .before .c2 .given .1)
+    (told-as img (now (c .before .before .before .before .before .before .before .args .out)) (c .before .before .before .before .before .before .before .args .pos) (c .before .before .before .before .before .before .before .args .lim) (c .before .before .c2 .given .0 .0) lies (c .told .ensures))
 
 pub range-to-text-chosen-range-requires : (t : ℕ) → range-to-text-lts.Need-chosen-range-requires (range-to-text-calls t) (range-to-text-at t) range-to-text.Post
 range-to-text-chosen-range-requires t c κs = search needs

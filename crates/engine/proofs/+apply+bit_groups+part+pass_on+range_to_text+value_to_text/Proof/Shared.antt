@@ -29,7 +29,7 @@ use Rattle.pieces.proofs.paste.add_visits.Reads as add-visits-reads
 use Rattle.pieces.proofs.paste.paste.Reads as paste-reads
 use Rattle.pieces.proofs.said.Outcome.counted.Reads as counted-reads
 use Rattle.pieces.proofs.said.Outcome.quiet.Reads as quiet-reads
-use Rattle.pieces.proofs.said.spell.Reads as spell-reads
+use Rattle.pieces.proofs.said.told.Reads as told-reads
 use Rattle.steps.proofs.choice.chosen_key.Reads as chosen-key-reads
 use Rattle.steps.proofs.choice.chosen_range.Reads as chosen-range-reads
 use Rattle.steps.proofs.step.step_at.Reads as step-at-reads
@@ -104,7 +104,7 @@ value-to-text-below t =
 
 abbrev pub apply-calls : ℕ → apply-lts.Claims
 apply-calls t =
-    (quiet-reads.Asked, quiet-reads.Learnt, counted-reads.Asked, counted-reads.Learnt, step-at-reads.Asked, step-at-reads.Learnt, value-to-text-below t, value-to-text.Post, range-to-text-below t, range-to-text.Post, bit-groups-below t, bit-groups.Post, spell-reads.Asked, spell-reads.Learnt)
+    (quiet-reads.Asked, quiet-reads.Learnt, counted-reads.Asked, counted-reads.Learnt, step-at-reads.Asked, step-at-reads.Learnt, value-to-text-below t, value-to-text.Post, range-to-text-below t, range-to-text.Post, bit-groups-below t, bit-groups.Post, told-reads.Asked, told-reads.Learnt)
 
 abbrev pub bit-groups-calls : ℕ → bit-groups-lts.Claims
 bit-groups-calls t =
@@ -116,7 +116,7 @@ part-calls t =
 
 abbrev pub pass-on-calls : ℕ → pass-on-lts.Claims
 pass-on-calls t =
-    (apply-below t, apply.Post, spell-reads.Asked, spell-reads.Learnt)
+    (apply-below t, apply.Post, told-reads.Asked, told-reads.Learnt)
 
 abbrev pub range-to-text-calls : ℕ → range-to-text-lts.Claims
 range-to-text-calls t =
