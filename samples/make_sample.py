@@ -2,8 +2,9 @@
 """Makes the sample image: the conversions of a tractor's gateway, and values to convert by them.
 
 It writes crates/show_blocks/stdin, which the program show_blocks lists, and crates/show_values/stdin, whose values the program show_values
-converts. It is written from document 01 and the MDF standard alone, with nothing but Python's own library, and uses none of the project's own
-code, so that the image says nothing about it.
+converts. The image of show_values alone is samples/tractor.mdf, which the examples of the C header, the Rust crate and the command convert by;
+samples/README.md says which conversion stands at which address in it. It is written from document 01 and the MDF standard alone, with nothing but
+Python's own library, and uses none of the project's own code, so that the image says nothing about it.
 
 The image is 64 bytes of identification, then ##TX, ##MD and ##CC blocks one behind the other, each at a multiple of 8. For show_values some
 blocks more stand behind those of show_blocks, and requests before the image, numbers little-endian: how many in 8 bytes, then 64 bytes for each.
@@ -14,8 +15,12 @@ import os
 import struct
 
 KINDS = ("unsigned", "signed", "float", "text", "other")
+TYPES = ("identity", "linear", "rational", "formula", "table interpolated", "table nearest", "range to value", "value to text", "range to text",
+         "text to value", "text to text", "bit groups")
+HERE = os.path.dirname(os.path.abspath(__file__))
 
 blocks = []  # (label, size in bytes, function of the addresses that gives the bytes)
+conversions = []  # (label, type number, name, unit)
 requests = []  # (label or address, bytes behind the address)
 
 
@@ -52,6 +57,7 @@ def conversion(label, kind, name="", unit="", comment="", inverse="", refs=(), v
         return out + b"".join(words)
 
     blocks.append((label, size, data))
+    conversions.append((label, kind, name, unit))
 
 
 def request(where, kind, value=0, limit=4096, room=4096):
@@ -175,16 +181,58 @@ def image_of(some):
     return image
 
 
-def write(program, data):
-    assert len(data) <= 65535
-    target = os.path.join(os.path.dirname(os.path.abspath(__file__)), "..", "crates", program, "stdin")
-    with open(target, "wb") as out:
+def write(path, data):
+    with open(os.path.join(HERE, "..", path), "wb") as out:
         out.write(data)
-    print(program, "reads", len(data), "bytes")
+    print(path, "has", len(data), "bytes")
 
 
-write("show_blocks", image_of(blocks[:listed]))
+def write_input(program, data):
+    assert len(data) <= 65535
+    write("crates/%s/stdin" % program, data)
+
+
+# What README.md says of the conversions whose name and type do not say it.
+REMARKS = {
+    "raw": "the inverse of Torque",
+    "ranges": "its flags tell of a range, and there is none",
+    "oil": "the default of the range to text below",
+    "groups": "its first group is Gear, at {gear}",
+    "vendor": "leads to the damaged block below, so the check refuses: 4 Short at {damaged}",
+    "damaged": "its link count is larger than any image: 4 Short",
+    "coolant": "both references lead to {oil}, which counts as two visits",
+    "beacon": "its second text has no value",
+    "seat": "a loop with the next one: 6 Loop",
+    "seat again": "a loop with the one before: 6 Loop",
+}
+
+
+def type_name(kind):
+    return "%d %s" % (kind, TYPES[kind] if kind < len(TYPES) else "unknown")
+
+
+def row(label, kind, name, unit):
+    remark = REMARKS.get(label, "").format(**places)
+    return "| %d | %s | %s | %s | %s |" % (places[label], name, type_name(kind), unit, remark)
+
+
+def readme(size):
+    lines = ["# The sample image",
+             "",
+             "`tractor.mdf` is an image of %d bytes with the conversions of a tractor's gateway, at least one of each type." % size,
+             "`make_sample.py` makes it, this page, and the input of the programs `show_blocks` and `show_values`.",
+             "",
+             "| address | name | type | unit | remark |",
+             "|---|---|---|---|---|"]
+    lines += [row(*one) for one in conversions]
+    return ("\n".join(lines) + "\n").encode()
+
+
+image = image_of(blocks)
 asked = struct.pack("<Q", len(requests))
 for where, body in requests:
     asked += struct.pack("<Q", places.get(where, where)) + body
-write("show_values", asked + image_of(blocks))
+write_input("show_blocks", image_of(blocks[:listed]))
+write_input("show_values", asked + image)
+write("samples/tractor.mdf", image)
+write("samples/README.md", readme(len(image)))

@@ -1,0 +1,179 @@
+/* MDF 4 conversion blocks (##CC): checked, applied to values, parsed and written.
+ *
+ * Every call works on an image that is lent to it: the bytes of an MDF 4 file, or any bytes at all. An address is a place in the image, counted
+ * from 0. No image, address, value or length makes a call misbehave or run on: a call answers, or it refuses with a number.
+ *
+ * Example: the text that the bit groups at address 2488 give for the value 6.
+ *
+ *     #include "mdf_conversion.h"
+ *     #include <inttypes.h>
+ *     #include <stdio.h>
+ *
+ *     int main(int count, char **words) {
+ *         static uint8_t image[65536];
+ *         uint8_t out[64];
+ *         FILE *file = fopen(count > 1 ? words[1] : "samples/tractor.mdf", "rb");
+ *         if (file == NULL) return 2;
+ *         size_t length = fread(image, 1, sizeof image, file);
+ *         fclose(file);
+ *         mdf_applied a = mdf_apply_unsigned(image, length, 2488, 4096, 6, out, sizeof out);
+ *         if (a.kind == MDF_KIND_REFUSED) printf("refused %" PRIu32 " at %" PRIu64 "\n", a.refusal, a.address);
+ *         if (a.kind == MDF_KIND_NUMBER) printf("number %.17g\n", a.number);
+ *         if (a.kind == MDF_KIND_TEXT) printf("text %.*s\n", (int)a.length, (const char *)out);
+ *         return 0;
+ *     }
+ *
+ * It prints "text Gear = Low|PTO". In the project's root `rt staticlib gateway` makes the archive, and
+ *
+ *     gcc -std=c11 -Iface/c example.c target/staticlib/libgateway.a -o example
+ *
+ * links it. The archive is for x86-64 and needs no library: of the C library it calls memcpy alone.
+ *
+ * What a caller owes, of every pointer that stands before a length:
+ * - It points to that many elements. It is not null and fits its type's alignment, even where the length is 0: an empty slice may point to any
+ *   object of its type, such as a local variable, and nothing is read or written there.
+ * - A slice has at most PTRDIFF_MAX bytes.
+ * - `out` shares no byte with another slice of the call, and no other thread writes to a slice, or reads `out`, while the call runs.
+ *
+ * A call keeps nothing, and uses no heap and no variable of its own. Calls may run at the same time.
+ */
+#ifndef MDF_CONVERSION_H
+#define MDF_CONVERSION_H
+
+#include <stddef.h>
+#include <stdint.h>
+#ifndef __cplusplus
+#include <stdbool.h>
+#endif
+
+#ifdef __cplusplus
+extern "C" {
+#endif
+
+/* Why a call refused. 1 to 6 have the address of the block or link; every other field that does not apply is 0. */
+enum mdf_refusal {
+    MDF_REFUSED_OUTSIDE = 1,        /* root address + 24 is beyond the image */
+    MDF_REFUSED_NOT_CONVERSION = 2, /* the root's id is not ##CC */
+    MDF_REFUSED_LIMIT = 3,          /* a visit would exceed the visit limit */
+    MDF_REFUSED_SHORT = 4,          /* the image ends inside a ##CC block */
+    MDF_REFUSED_DEEP = 5,           /* a block at depth 21; the root has depth 0 */
+    MDF_REFUSED_LOOP = 6,           /* a link back to a block on the current path */
+    MDF_REFUSED_FORMULA = 7,        /* applying reaches a formula (type 3) with a number */
+    MDF_REFUSED_ROOM = 8,           /* the text or block is longer than `out` */
+    MDF_REFUSED_COUNT = 9           /* more than 65,535 values to write */
+};
+
+/* What an application answers. */
+enum mdf_kind {
+    MDF_KIND_REFUSED = 0,   /* see `refusal` */
+    MDF_KIND_NUMBER = 1,    /* see `number` */
+    MDF_KIND_TEXT = 2,      /* the first `length` bytes of `out` */
+    MDF_KIND_UNCHANGED = 3, /* the value stays as it is */
+    MDF_KIND_UNKNOWN = 4    /* the value has no counterpart */
+};
+
+/* The answer of a check. */
+typedef struct {
+    uint32_t refusal; /* 0: accepted */
+    uint32_t visits;  /* N, the blocks visited, if it is accepted */
+    uint64_t address; /* of a refusal from 1 to 6 */
+} mdf_checked;
+
+/* The answer of an application. Fields that do not apply are 0. */
+typedef struct {
+    uint32_t refusal; /* 0: there is an answer */
+    uint32_t kind;    /* a number of enum mdf_kind */
+    double number;    /* of kind MDF_KIND_NUMBER */
+    uint64_t length;  /* bytes of the text, of kind MDF_KIND_TEXT */
+    uint64_t address; /* of a refusal from 1 to 6 */
+    uint32_t checked; /* N, the visits of the check; 0 where refused with 1 to 6 */
+    uint32_t applied; /* M, the visits of applying; 0 where refused with 1 to 6 */
+} mdf_applied;
+
+/* A part of the image or of the question. */
+typedef struct {
+    uint32_t from_image; /* 1: that part of the image; 0: the whole question */
+    uint64_t start;      /* its first byte; 0 for the question */
+    uint64_t length;     /* how many bytes it has */
+} mdf_shown;
+
+/* The fields of a ##CC block. A link is an address, and 0 leads nowhere. */
+typedef struct {
+    uint64_t length;                         /* block length, as written */
+    uint64_t links;                          /* link count, as written */
+    uint64_t name, unit, comment, inverse;   /* the four fixed links */
+    double range_min, range_max;             /* 0 where there is no range */
+    uint64_t min_word, max_word;             /* the 64 bits of the range as they stand in the image: a NaN keeps its own here */
+    uint16_t flags;
+    uint16_t ref_count;                      /* the reference count field; the block has links - 4 references, none below 4 links */
+    uint16_t val_count;                      /* how many values the block has */
+    uint8_t kind;                            /* type: 0 identity, 1 linear, 2 rational, 3 formula, 4 table interpolated, 5 table nearest,
+                                                6 range to value, 7 value to text, 8 range to text, 9 text to value, 10 text to text,
+                                                11 bit groups; any other is unknown */
+    uint8_t precision;
+    bool ranged;                             /* whether there is a range */
+} mdf_block;
+
+/* The answer of parsing. */
+typedef struct {
+    uint32_t refusal; /* 0: parsed */
+    uint64_t address; /* of the refusal */
+    mdf_block block;  /* all 0 where refused */
+} mdf_parsed;
+
+/* The answer of writing. */
+typedef struct {
+    uint32_t refusal; /* 0: written */
+    uint64_t length;  /* bytes written; 0 where refused */
+} mdf_written;
+
+/* Walks the conversion at `address` and every conversion under it, references in order, and begins at most `limit` visits.
+ * Answers how many blocks it visited, a block that is reached twice counting twice; or the first refusal met, of 1 to 6. */
+mdf_checked mdf_check(const uint8_t *image, size_t image_len, uint64_t address, uint32_t limit);
+
+/* Checks as mdf_check does, then applies the conversion at `address` to an unsigned whole number.
+ * Answers a number, a text, unchanged or unknown, with the visits of both walks; or a refusal of 1 to 8. Refusals 7 and 8 have the visits too.
+ * Afterwards a text stands in `out` from byte 0 on and the bytes behind it are as they were. After any other answer, and after every refusal,
+ * all of `out` is as it was. */
+mdf_applied mdf_apply_unsigned(const uint8_t *image, size_t image_len, uint64_t address, uint32_t limit, uint64_t value, uint8_t *out,
+                               size_t out_len);
+
+/* As mdf_apply_unsigned, for a signed whole number. Bit groups see its 64 bits in two's complement. */
+mdf_applied mdf_apply_signed(const uint8_t *image, size_t image_len, uint64_t address, uint32_t limit, int64_t value, uint8_t *out,
+                             size_t out_len);
+
+/* As mdf_apply_unsigned, for a float. The upper bound of a range does not belong to the range, as it does for whole numbers. */
+mdf_applied mdf_apply_float(const uint8_t *image, size_t image_len, uint64_t address, uint32_t limit, double value, uint8_t *out,
+                            size_t out_len);
+
+/* As mdf_apply_unsigned, for a text of `text_len` bytes, with no zero at its end. */
+mdf_applied mdf_apply_text(const uint8_t *image, size_t image_len, uint64_t address, uint32_t limit, const uint8_t *text, size_t text_len,
+                           uint8_t *out, size_t out_len);
+
+/* As mdf_apply_unsigned, for a value of any other kind. It stays unchanged, unless the check refuses. */
+mdf_applied mdf_apply_other(const uint8_t *image, size_t image_len, uint64_t address, uint32_t limit, uint8_t *out, size_t out_len);
+
+/* Translates a text without copying it: answers the part of the image with the text that a text to text conversion (type 10) chooses for the
+ * question. Answers the question itself where the check refuses, the root has another type, or no text is chosen. Names no refusal. */
+mdf_shown mdf_translate(const uint8_t *image, size_t image_len, uint64_t address, uint32_t limit, const uint8_t *question, size_t question_len);
+
+/* Reads the fields of the one block at `address`. Answers them, or refusal 1, 2 or 4.
+ * The parsed block lies whole in the image, all numbers little-endian and unaligned:
+ * - its references, 8 bytes each, from address + 56 on: links - 4 of them, none where links is below 4;
+ * - its values, 8 bytes each, val_count of them, from address + 64 + 8 * references on, and 16 more where there is a range. */
+mdf_parsed mdf_parse(const uint8_t *image, size_t image_len, uint64_t address);
+
+/* Writes a block with these references and these values, each value as its 64 bits.
+ * Of `block` it takes the four fixed links, kind, precision, flags, ref_count and, where `ranged` is true, the range. A range bound that is a NaN
+ * is written as its word if that is a NaN too, else as 0x7ff8000000000000; any other bound as it is, whatever its word. The link count is
+ * 4 + refs_len, the value count words_len, the block length what is written.
+ * Answers how many bytes it wrote; or refusal 9, or 8. Afterwards the block stands in `out` from byte 0 on and the bytes behind it are as they
+ * were. After a refusal all of `out` is as it was. */
+mdf_written mdf_write(mdf_block block, const uint64_t *refs, size_t refs_len, const uint64_t *words, size_t words_len, uint8_t *out,
+                      size_t out_len);
+
+#ifdef __cplusplus
+}
+#endif
+
+#endif

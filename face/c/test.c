@@ -1,0 +1,690 @@
+/* Calls each function of mdf_conversion.h: every line of document 01's "Cases", and every refusal from 1 to 9.
+ *
+ * The images are built here byte by byte. Each call gets its image in a block of the heap of exactly its length, so that valgrind sees a read past
+ * its end, and an output buffer between guard bytes. After each call every byte that should be as it was is compared. */
+#include "mdf_conversion.h"
+
+#include <math.h>
+#include <stdio.h>
+#include <stdlib.h>
+#include <string.h>
+
+#define LIMIT 4096 /* visits, where a case names no limit */
+#define ROOM 64    /* bytes of output, where a case names no room */
+#define GUARD 32
+#define FILL 0xa5
+
+/* ---- counting ---- */
+
+static int passed, failed;
+
+static void expect(bool holds, const char *name) {
+    if (holds) {
+        passed++;
+    } else {
+        failed++;
+        printf("failed: %s\n", name);
+    }
+}
+
+static bool same_double(double a, double b) {
+    return (isnan(a) && isnan(b)) || memcmp(&a, &b, sizeof a) == 0;
+}
+
+/* ---- building an image ---- */
+
+static uint8_t built[1 << 16];
+static size_t built_len;
+
+static void begin(void) {
+    memset(built, 0, sizeof built);
+    built_len = 64; /* so that no block stands at 0, where no link leads */
+}
+
+/* The low bytes of a word, at most 8. */
+static void put(uint64_t word, size_t bytes) {
+    for (size_t i = 0; i < bytes; i++) built[built_len++] = (uint8_t)(word >> (8 * i));
+}
+
+static void put_header(const char *id, uint64_t length, uint64_t links) {
+    memcpy(built + built_len, id, 4);
+    built_len += 8;
+    put(length, 8);
+    put(links, 8);
+}
+
+static uint64_t bits(double x) {
+    uint64_t word;
+    memcpy(&word, &x, sizeof word);
+    return word;
+}
+
+/* A ##TX block with zeros up to a multiple of 8. Answers its address. */
+static uint64_t text(const char *words) {
+    uint64_t address = built_len;
+    size_t size = (strlen(words) + 8) / 8 * 8;
+    put_header("##TX", 24 + size, 0);
+    memcpy(built + built_len, words, strlen(words));
+    built_len += size;
+    return address;
+}
+
+/* What a case says of a ##CC block; links and length are the true ones where they are 0. */
+typedef struct {
+    uint8_t kind;
+    uint64_t name;
+    const uint64_t *refs;
+    size_t ref_count;
+    const uint64_t *words;
+    size_t word_count;
+    uint64_t links, length;
+} plan;
+
+/* Answers the block's address. */
+static uint64_t block(plan p) {
+    uint64_t address = built_len;
+    uint64_t length = 64 + 8 * (p.ref_count + p.word_count);
+    put_header("##CC", p.length ? p.length : length, p.links ? p.links : 4 + p.ref_count);
+    put(p.name, 8);
+    for (int i = 0; i < 3; i++) put(0, 8);
+    for (size_t i = 0; i < p.ref_count; i++) put(p.refs[i], 8);
+    put(p.kind, 2);
+    put(0, 2);
+    put(p.ref_count, 2);
+    put(p.word_count, 2);
+    for (size_t i = 0; i < p.word_count; i++) put(p.words[i], 8);
+    return address;
+}
+
+#define COUNT_OF(a) (sizeof(a) / sizeof *(a))
+
+static uint64_t of_words(uint8_t kind, const uint64_t *refs, size_t ref_count, const uint64_t *words, size_t word_count) {
+    plan p = {.kind = kind, .refs = refs, .ref_count = ref_count, .words = words, .word_count = word_count};
+    return block(p);
+}
+
+/* A block with these references and float values. */
+static uint64_t of_values(uint8_t kind, const uint64_t *refs, size_t ref_count, const double *values, size_t value_count) {
+    uint64_t words[16];
+    for (size_t i = 0; i < value_count; i++) words[i] = bits(values[i]);
+    return of_words(kind, refs, ref_count, words, value_count);
+}
+
+static uint64_t of_numbers(uint8_t kind, const double *values, size_t value_count) {
+    return of_values(kind, NULL, 0, values, value_count);
+}
+
+/* A block with these references and no values. */
+static uint64_t of_refs(uint8_t kind, const uint64_t *refs, size_t ref_count) {
+    return of_words(kind, refs, ref_count, NULL, 0);
+}
+
+/* ---- lending buffers ---- */
+
+static void *taken(size_t bytes) {
+    void *block_of_heap = malloc(bytes ? bytes : 1);
+    if (block_of_heap == NULL) abort();
+    return block_of_heap;
+}
+
+/* What was built, in a block of the heap of its own length. */
+static uint8_t *lent_image(void) {
+    uint8_t *image = taken(built_len);
+    memcpy(image, built, built_len);
+    return image;
+}
+
+/* The bytes of a text without the zero at its end, in the same way. */
+static uint8_t *lent_text(const char *words) {
+    uint8_t *text_of_heap = taken(strlen(words));
+    memcpy(text_of_heap, words, strlen(words));
+    return text_of_heap;
+}
+
+static void give_back_image(uint8_t *image, const char *name) {
+    if (memcmp(image, built, built_len) != 0) expect(false, name);
+    free(image);
+}
+
+/* `room` bytes of output between two guards. */
+static uint8_t *lent_out(size_t room) {
+    uint8_t *all = taken(room + 2 * GUARD);
+    memset(all, FILL, room + 2 * GUARD);
+    return all + GUARD;
+}
+
+/* Whether the output has these bytes, and is untouched behind them and in both guards. */
+static bool holds(const uint8_t *out, size_t room, const void *bytes, size_t length) {
+    const uint8_t *all = out - GUARD;
+    if (length > room || (length > 0 && memcmp(out, bytes, length) != 0)) return false;
+    for (size_t i = 0; i < room + 2 * GUARD; i++) {
+        if ((i < GUARD || i >= GUARD + length) && all[i] != FILL) return false;
+    }
+    return true;
+}
+
+static void give_back_out(uint8_t *out) {
+    free(out - GUARD);
+}
+
+/* ---- one application ---- */
+
+typedef enum { UNSIGNED, SIGNED, FLOAT, TEXT, OTHER } sort;
+
+typedef struct {
+    sort sort;
+    uint64_t number;
+    double real;
+    const char *text;
+} value;
+
+static value of_unsigned(uint64_t n) {
+    value v = {.sort = UNSIGNED, .number = n};
+    return v;
+}
+
+static value of_signed(int64_t n) {
+    value v = {.sort = SIGNED, .number = (uint64_t)n};
+    return v;
+}
+
+static value of_float(double x) {
+    value v = {.sort = FLOAT, .real = x};
+    return v;
+}
+
+static value of_text(const char *words) {
+    value v = {.sort = TEXT, .text = words};
+    return v;
+}
+
+static const value other = {.sort = OTHER};
+
+static mdf_applied apply_text(const uint8_t *image, uint64_t address, uint32_t limit, const char *words, uint8_t *out, size_t room) {
+    uint8_t *lent = lent_text(words);
+    mdf_applied a = mdf_apply_text(image, built_len, address, limit, lent, strlen(words), out, room);
+    free(lent);
+    return a;
+}
+
+static mdf_applied apply(const uint8_t *image, uint64_t address, uint32_t limit, value v, uint8_t *out, size_t room) {
+    switch (v.sort) {
+    case UNSIGNED: return mdf_apply_unsigned(image, built_len, address, limit, v.number, out, room);
+    case SIGNED: return mdf_apply_signed(image, built_len, address, limit, (int64_t)v.number, out, room);
+    case FLOAT: return mdf_apply_float(image, built_len, address, limit, v.real, out, room);
+    case TEXT: return apply_text(image, address, limit, v.text, out, room);
+    default: return mdf_apply_other(image, built_len, address, limit, out, room);
+    }
+}
+
+static bool same_answer(mdf_applied a, mdf_applied b) {
+    return a.refusal == b.refusal && a.kind == b.kind && same_double(a.number, b.number) && a.length == b.length && a.address == b.address &&
+           a.checked == b.checked && a.applied == b.applied;
+}
+
+/* Applies, and compares every field of the answer and every byte of the output, which is to have `words`. */
+static void applies_within(const char *name, uint64_t address, uint32_t limit, size_t room, value v, mdf_applied wanted, const char *words) {
+    uint8_t *image = lent_image(), *out = lent_out(room);
+    mdf_applied a = apply(image, address, limit, v, out, room);
+    expect(same_answer(a, wanted) && holds(out, room, words, strlen(words)), name);
+    give_back_image(image, name);
+    give_back_out(out);
+}
+
+static void applies(const char *name, uint64_t address, value v, mdf_applied wanted, const char *words) {
+    applies_within(name, address, LIMIT, ROOM, v, wanted, words);
+}
+
+static void gives_number(const char *name, uint64_t address, value v, double number) {
+    mdf_applied wanted = {.kind = MDF_KIND_NUMBER, .number = number, .checked = 1, .applied = 1};
+    applies(name, address, v, wanted, "");
+}
+
+static void gives_text(const char *name, uint64_t address, value v, const char *words, uint32_t n, uint32_t m) {
+    mdf_applied wanted = {.kind = MDF_KIND_TEXT, .length = strlen(words), .checked = n, .applied = m};
+    applies(name, address, v, wanted, words);
+}
+
+static void is_unchanged(const char *name, uint64_t address, value v) {
+    mdf_applied wanted = {.kind = MDF_KIND_UNCHANGED, .checked = 1, .applied = 1};
+    applies(name, address, v, wanted, "");
+}
+
+static void is_unknown(const char *name, uint64_t address, value v) {
+    mdf_applied wanted = {.kind = MDF_KIND_UNKNOWN, .checked = 1, .applied = 1};
+    applies(name, address, v, wanted, "");
+}
+
+/* A refusal of the check, which has an address and no visits. */
+static void is_refused_at(const char *name, uint64_t address, uint32_t limit, value v, uint32_t refusal, uint64_t at) {
+    mdf_applied wanted = {.refusal = refusal, .kind = MDF_KIND_REFUSED, .address = at};
+    applies_within(name, address, limit, ROOM, v, wanted, "");
+}
+
+/* A refusal of applying, which has visits and no address. */
+static void is_refused(const char *name, uint64_t address, size_t room, value v, uint32_t refusal, uint32_t n, uint32_t m) {
+    mdf_applied wanted = {.refusal = refusal, .kind = MDF_KIND_REFUSED, .checked = n, .applied = m};
+    applies_within(name, address, LIMIT, room, v, wanted, "");
+}
+
+/* ---- one check ---- */
+
+static void checks(const char *name, uint64_t address, uint32_t limit, mdf_checked wanted) {
+    uint8_t *image = lent_image();
+    mdf_checked c = mdf_check(image, built_len, address, limit);
+    expect(c.refusal == wanted.refusal && c.visits == wanted.visits && c.address == wanted.address, name);
+    give_back_image(image, name);
+}
+
+static void is_accepted(const char *name, uint64_t address, uint32_t limit, uint32_t visits) {
+    mdf_checked wanted = {.visits = visits};
+    checks(name, address, limit, wanted);
+}
+
+/* The check refuses, and applying any value refuses alike. */
+static void is_unsound(const char *name, uint64_t address, uint32_t limit, uint32_t refusal, uint64_t at) {
+    mdf_checked wanted = {.refusal = refusal, .address = at};
+    checks(name, address, limit, wanted);
+    is_refused_at(name, address, limit, of_unsigned(1), refusal, at);
+    is_refused_at(name, address, limit, of_signed(-1), refusal, at);
+    is_refused_at(name, address, limit, of_float(0.5), refusal, at);
+    is_refused_at(name, address, limit, of_text("x"), refusal, at);
+    is_refused_at(name, address, limit, other, refusal, at);
+}
+
+/* ---- document 01's cases ---- */
+
+static const double zero_and_eighth[] = {0, 0.125};
+static const double pairs[] = {0, 10, 10, 20, 20, 60};
+
+static void linear_cases(void) {
+    begin();
+    uint64_t torque = of_numbers(1, zero_and_eighth, 2);
+    gives_number("linear [0, 0.125], signed -3", torque, of_signed(-3), -0.375);
+    gives_number("linear, float 2.5", torque, of_float(2.5), 0.3125);
+    is_unchanged("linear, a text", torque, of_text("no signal"));
+    is_unchanged("linear, a value of kind other", torque, other);
+    begin();
+    uint64_t one = of_numbers(1, zero_and_eighth, 1);
+    gives_number("linear with one value only, integer 7", one, of_unsigned(7), 7);
+}
+
+static void rounding_cases(void) {
+    begin();
+    uint64_t as_it_is = of_numbers(1, zero_and_eighth, 1);
+    gives_number("integer 9007199254740993", as_it_is, of_unsigned(9007199254740993), 9007199254740992.0);
+    gives_number("integer 9007199254740995", as_it_is, of_unsigned(9007199254740995), 9007199254740996.0);
+    gives_number("signed -9007199254740993", as_it_is, of_signed(-9007199254740993), -9007199254740992.0);
+    gives_number("largest unsigned", as_it_is, of_unsigned(UINT64_MAX), 18446744073709551616.0);
+    gives_number("smallest signed", as_it_is, of_signed(INT64_MIN), -9223372036854775808.0);
+}
+
+static void rational_cases(void) {
+    static const double parameters[] = {0, 1, 0, 0, 0, 0};
+    begin();
+    uint64_t rational = of_numbers(2, parameters, 6);
+    gives_number("rational (0,1,0,0,0,0), x = 4", rational, of_unsigned(4), INFINITY);
+    gives_number("rational (0,1,0,0,0,0), x = 0", rational, of_unsigned(0), NAN);
+}
+
+static void table_cases(void) {
+    begin();
+    uint64_t interpolated = of_numbers(4, pairs, 6), nearest = of_numbers(5, pairs, 6);
+    gives_number("pairs, x = 15 interpolated", interpolated, of_unsigned(15), 40);
+    gives_number("pairs, x = 15 nearest", nearest, of_unsigned(15), 20);
+    gives_number("pairs, x = 16 nearest", nearest, of_unsigned(16), 60);
+    gives_number("pairs, x = -1 interpolated", interpolated, of_signed(-1), 10);
+    gives_number("pairs, x = -1 nearest", nearest, of_signed(-1), 10);
+}
+
+static void range_to_text_cases(void) {
+    static const double ranges[] = {0, 10, 10, 20};
+    begin();
+    uint64_t texts[] = {text("index 0"), text("index 1"), text("index 2")};
+    uint64_t two = of_values(8, texts, 3, ranges, 4);
+    gives_text("ranges [0,10],[10,20], integer 10", two, of_unsigned(10), "index 0", 1, 1);
+    gives_text("ranges [0,10],[10,20], float 10", two, of_float(10), "index 1", 1, 1);
+    gives_text("ranges [0,10],[10,20], float 20", two, of_float(20), "index 2", 1, 1);
+    gives_text("ranges [0,10],[10,20], NaN", two, of_float(NAN), "index 2", 1, 1);
+    uint64_t odd = of_values(8, texts, 1, ranges, 3), nil = 0;
+    gives_text("length 3: index 0", odd, of_unsigned(99), "index 0", 1, 1);
+    gives_text("length 3: index 0 for NaN", odd, of_float(NAN), "index 0", 1, 1);
+    uint64_t odd_nil = of_values(8, &nil, 1, ranges, 3), single = of_values(8, &nil, 1, ranges, 1);
+    gives_text("length 3: matched, so NIL is the empty text", odd_nil, of_float(NAN), "", 1, 1);
+    is_unchanged("length 1: not matched, so NIL is no text", single, of_unsigned(0));
+}
+
+static void range_to_value_cases(void) {
+    static const double ranges[] = {0, 10, 1, 10, 20, 2, 9};
+    begin();
+    uint64_t hitch = of_numbers(6, ranges, 7);
+    gives_number("range to value, integer 10", hitch, of_unsigned(10), 1);
+    gives_number("range to value, float 10", hitch, of_float(10), 2);
+    gives_number("range to value, float 20", hitch, of_float(20), 9);
+}
+
+static void parses_with_range(const char *name, uint64_t length, bool ranged) {
+    begin();
+    const uint64_t words[] = {bits(0.5), bits(8), bits(2), bits(3)};
+    plan p = {.kind = 1, .words = words, .word_count = 4, .length = length};
+    uint64_t address = block(p);
+    built[address + 62] = 2; /* two values, and two words that may be a range */
+    uint8_t *image = lent_image();
+    mdf_parsed parsed = mdf_parse(image, built_len, address);
+    bool range_is_right = ranged ? parsed.block.range_min == 0.5 && parsed.block.range_max == 8
+                                 : parsed.block.range_min == 0 && parsed.block.range_max == 0;
+    expect(parsed.refusal == 0 && parsed.address == 0 && parsed.block.length == length && parsed.block.links == 4 &&
+               parsed.block.val_count == 2 && parsed.block.ranged == ranged && range_is_right,
+           name);
+    give_back_image(image, name);
+}
+
+static void range_field_cases(void) {
+    parses_with_range("4 links, 2 values: block length 95 has no range", 95, false);
+    parses_with_range("4 links, 2 values: block length 96 has a range", 96, true);
+}
+
+static void bit_group_cases(void) {
+    static const uint64_t masks[] = {3, 12};
+    begin();
+    uint64_t gear_name = text("Gear"), low = text("Low"), pto = text("PTO"), two = bits(2);
+    plan gear = {.kind = 7, .name = gear_name, .refs = &low, .ref_count = 1, .words = &two, .word_count = 1};
+    uint64_t groups_of[] = {block(gear), pto};
+    uint64_t groups = of_words(11, groups_of, 2, masks, 2);
+    mdf_applied wanted = {.kind = MDF_KIND_TEXT, .length = 14, .checked = 2, .applied = 2};
+    gives_text("masks 3 and 12, integer 6", groups, of_unsigned(6), "Gear = Low|PTO", 2, 2);
+    gives_text("masks 3 and 12, signed -2", groups, of_signed(-2), "Gear = Low|PTO", 2, 2);
+    gives_text("masks 3 and 12, integer 0", groups, of_unsigned(0), "PTO", 2, 2);
+    applies_within("14 bytes of room", groups, LIMIT, 14, of_unsigned(6), wanted, "Gear = Low|PTO");
+    is_refused("13 bytes of room: 8 Room", groups, 13, of_unsigned(6), MDF_REFUSED_ROOM, 2, 2);
+    is_refused("no room: 8 Room", groups, 0, of_unsigned(6), MDF_REFUSED_ROOM, 2, 2);
+}
+
+static void visit_cases(void) {
+    begin();
+    uint64_t leaf = of_numbers(1, zero_and_eighth, 2);
+    uint64_t twice[] = {leaf, leaf};
+    uint64_t root = of_refs(8, twice, 2);
+    is_accepted("two links to one leaf: 3 visits", root, LIMIT, 3);
+    is_accepted("two links to one leaf, limit 3", root, 3, 3);
+    is_unsound("two links to one leaf, limit 2: 3 Limit", root, 2, MDF_REFUSED_LIMIT, leaf);
+}
+
+/* A row of blocks, each but the last with so many links to the next. Answers the first, and in `last` the last. */
+static uint64_t row(size_t count, size_t links, uint64_t *last) {
+    begin();
+    uint64_t next[2] = {0, 0};
+    *last = next[0] = next[1] = of_refs(7, NULL, 0);
+    for (size_t i = 1; i < count; i++) next[0] = next[1] = of_refs(7, next, links);
+    return next[0];
+}
+
+static void deep_cases(void) {
+    uint64_t last, root = row(21, 1, &last);
+    is_accepted("a chain of 21", root, LIMIT, 21);
+    root = row(22, 1, &last);
+    is_unsound("a chain of 22: 5 Deep", root, LIMIT, MDF_REFUSED_DEEP, last);
+    root = row(12, 2, &last);
+    is_accepted("twelve blocks in a row, each linking twice to the next", root, LIMIT, 4095);
+    is_accepted("twelve blocks in a row, limit 4095", root, 4095, 4095);
+    is_unsound("twelve blocks in a row, limit 4094: 3 Limit", root, 4094, MDF_REFUSED_LIMIT, last);
+}
+
+/* ---- refusals that the cases do not have ---- */
+
+static void outside_cases(void) {
+    begin();
+    uint64_t root = of_refs(0, NULL, 0);
+    is_accepted("a root that ends with the image", root, LIMIT, 1);
+    is_unsound("1 Outside: one byte too far", built_len - 23, LIMIT, MDF_REFUSED_OUTSIDE, built_len - 23);
+    is_unsound("1 Outside: the largest address", UINT64_MAX, LIMIT, MDF_REFUSED_OUTSIDE, UINT64_MAX);
+    is_unsound("1 before 3", UINT64_MAX, 0, MDF_REFUSED_OUTSIDE, UINT64_MAX);
+    built_len = 0;
+    is_unsound("1 Outside: an empty image", 0, LIMIT, MDF_REFUSED_OUTSIDE, 0);
+}
+
+static void other_block_cases(void) {
+    begin();
+    uint64_t words = text("no conversion");
+    is_unsound("2 NotConversion", words, LIMIT, MDF_REFUSED_NOT_CONVERSION, words);
+    is_unsound("2 before 3", words, 0, MDF_REFUSED_NOT_CONVERSION, words);
+}
+
+static void short_cases(void) {
+    begin();
+    plan damaged = {.kind = 1, .links = UINT64_C(1) << 60};
+    uint64_t leaf = block(damaged);
+    uint64_t root = of_refs(7, &leaf, 1);
+    is_unsound("4 Short: a link count that no image holds", leaf, LIMIT, MDF_REFUSED_SHORT, leaf);
+    is_unsound("4 Short: in a nested block", root, LIMIT, MDF_REFUSED_SHORT, leaf);
+    is_unsound("3 before 4", leaf, 0, MDF_REFUSED_LIMIT, leaf);
+    begin();
+    uint64_t cut = of_numbers(1, zero_and_eighth, 2);
+    built_len--;
+    is_unsound("4 Short: the image ends inside the last value", cut, LIMIT, MDF_REFUSED_SHORT, cut);
+}
+
+static void loop_cases(void) {
+    begin();
+    uint64_t self = built_len;
+    of_refs(7, &self, 1);
+    is_unsound("6 Loop: a link to itself", self, LIMIT, MDF_REFUSED_LOOP, self);
+    is_unsound("6 Loop: even with the limit used up", self, 1, MDF_REFUSED_LOOP, self);
+}
+
+static void formula_cases(void) {
+    static const uint64_t masks[] = {3, 12};
+    begin();
+    uint64_t formula = of_refs(3, NULL, 0);
+    is_refused("7 Formula", formula, ROOM, of_unsigned(5), MDF_REFUSED_FORMULA, 1, 1);
+    is_refused("7 before 8", formula, 0, of_float(5), MDF_REFUSED_FORMULA, 1, 1);
+    is_unchanged("a formula leaves a text unchanged", formula, of_text("no signal"));
+    is_unchanged("a formula leaves a value of kind other unchanged", formula, other);
+    uint64_t groups_of[] = {formula, formula};
+    uint64_t groups = of_words(11, groups_of, 2, masks, 2);
+    is_refused("7 Formula: M counts up to and with the formula", groups, ROOM, of_unsigned(6), MDF_REFUSED_FORMULA, 3, 2);
+}
+
+/* ---- text conversions ---- */
+
+static void text_cases(void) {
+    static const double numbers[] = {0, 1, -1};
+    begin();
+    uint64_t keys[] = {text("off"), text("on")};
+    uint64_t lamp = of_values(9, keys, 2, numbers, 3), no_default = of_values(9, keys, 2, numbers, 1);
+    gives_number("text to value, a text that is there", lamp, of_text("on"), 1);
+    gives_number("text to value, the default", lamp, of_text("blink"), -1);
+    is_unknown("text to value, no value for the text", no_default, of_text("on"));
+    is_unknown("text to value, no default", no_default, of_text("blink"));
+    is_unchanged("text to value, a number", lamp, of_unsigned(1));
+    is_unchanged("text to value, a value of kind other", lamp, other);
+    is_unchanged("an unknown type", of_refs(42, NULL, 0), of_unsigned(1));
+    is_unchanged("identity", of_refs(0, NULL, 0), of_float(-0.0));
+}
+
+/* Translates, and compares the answer with a part of the image, or with the question where `from` is 0. */
+static void translates(const char *name, uint64_t address, const char *question, uint64_t from, uint64_t length) {
+    uint8_t *image = lent_image(), *lent = lent_text(question);
+    mdf_shown shown = mdf_translate(image, built_len, address, LIMIT, lent, strlen(question));
+    expect(shown.from_image == (from ? 1u : 0u) && shown.start == from && shown.length == length, name);
+    free(lent);
+    give_back_image(image, name);
+}
+
+static void translation_cases(void) {
+    begin();
+    uint64_t e1 = text("E1"), low = text("oil pressure low"), e2 = text("E2"), none = text(""), rest = text("fault not known");
+    uint64_t with_default[] = {e1, low, e2, none, rest}, without[] = {e1, low, e2, none, 0};
+    uint64_t fault = of_refs(10, with_default, 5), no_default = of_refs(10, without, 5);
+    gives_text("text to text, a key", fault, of_text("E1"), "oil pressure low", 1, 1);
+    gives_text("text to text, the default", fault, of_text("E9"), "fault not known", 1, 1);
+    is_refused("text to text, no room", fault, 15, of_text("E1"), MDF_REFUSED_ROOM, 1, 1);
+    translates("translate a key", fault, "E1", low + 24, 16);
+    translates("translate a key to the empty text", fault, "E2", none + 24, 0);
+    translates("translate by the default", fault, "E9", rest + 24, 15);
+    translates("translate the empty question", fault, "", rest + 24, 15);
+    translates("translate with no default", no_default, "E9", 0, 2);
+    translates("translate by a root of another type", of_refs(9, with_default, 5), "E1", 0, 2);
+    translates("translate where the check refuses", UINT64_MAX, "E1", 0, 2);
+    translates("translate the empty question where the check refuses", UINT64_MAX, "", 0, 0);
+}
+
+/* ---- parsing and writing ---- */
+
+static bool same_block(mdf_block a, mdf_block b) {
+    return a.length == b.length && a.links == b.links && a.name == b.name && a.unit == b.unit && a.comment == b.comment &&
+           a.inverse == b.inverse && same_double(a.range_min, b.range_min) && same_double(a.range_max, b.range_max) &&
+           a.min_word == b.min_word && a.max_word == b.max_word && a.flags == b.flags && a.ref_count == b.ref_count &&
+           a.val_count == b.val_count && a.kind == b.kind && a.precision == b.precision && a.ranged == b.ranged;
+}
+
+static void parse_is_refused(const char *name, uint64_t address, uint32_t refusal) {
+    static const mdf_block none;
+    uint8_t *image = lent_image();
+    mdf_parsed parsed = mdf_parse(image, built_len, address);
+    expect(parsed.refusal == refusal && parsed.address == address && same_block(parsed.block, none), name);
+    give_back_image(image, name);
+}
+
+static void parse_refusals(void) {
+    begin();
+    plan damaged = {.kind = 1, .links = UINT64_MAX};
+    uint64_t words = text("no conversion"), leaf = block(damaged);
+    parse_is_refused("parse: 1 Outside", built_len, MDF_REFUSED_OUTSIDE);
+    parse_is_refused("parse: 2 NotConversion", words, MDF_REFUSED_NOT_CONVERSION);
+    parse_is_refused("parse: 4 Short", leaf, MDF_REFUSED_SHORT);
+}
+
+static const uint64_t some_refs[] = {0x1112131415161718, 0, UINT64_MAX};
+static const uint64_t some_words[] = {0x7ff0000000000001, 0x3fe0000000000000};
+
+/* A block with every field of its own. The first range bound is a NaN with a word of its own, the second has a word that does not count. */
+static mdf_block all_fields(void) {
+    mdf_block b = {.length = 1,
+                   .links = 2,
+                   .name = 0x0102030405060708,
+                   .unit = 0x1112131415161718,
+                   .comment = 0x2122232425262728,
+                   .inverse = 0x3132333435363738,
+                   .range_min = NAN,
+                   .range_max = -2.5,
+                   .min_word = 0xfff8000000000123,
+                   .max_word = 3,
+                   .flags = 0x4142,
+                   .ref_count = 0x5152,
+                   .val_count = 0x6162,
+                   .kind = 8,
+                   .precision = 9,
+                   .ranged = true};
+    return b;
+}
+
+/* The bytes of that block with some_refs and some_words. */
+static void build_all_fields(void) {
+    mdf_block b = all_fields();
+    begin();
+    built_len = 0;
+    put_header("##CC", 120, 7);
+    put(b.name, 8);
+    put(b.unit, 8);
+    put(b.comment, 8);
+    put(b.inverse, 8);
+    for (size_t i = 0; i < COUNT_OF(some_refs); i++) put(some_refs[i], 8);
+    put(b.kind, 1);
+    put(b.precision, 1);
+    put(b.flags, 2);
+    put(b.ref_count, 2);
+    put(COUNT_OF(some_words), 2);
+    put(b.min_word, 8);
+    put(bits(b.range_max), 8);
+    for (size_t i = 0; i < COUNT_OF(some_words); i++) put(some_words[i], 8);
+}
+
+static void writes(const char *name, mdf_block b, size_t room, uint32_t refusal) {
+    uint8_t *out = lent_out(room);
+    mdf_written w = mdf_write(b, some_refs, COUNT_OF(some_refs), some_words, COUNT_OF(some_words), out, room);
+    size_t length = refusal ? 0 : built_len;
+    expect(w.refusal == refusal && w.length == length && holds(out, room, built, length), name);
+    give_back_out(out);
+}
+
+/* Parsing what was written returns every field, the two counts and the block length as written. */
+static void parses_what_was_written(void) {
+    mdf_block wanted = all_fields();
+    wanted.length = built_len;
+    wanted.links = 7;
+    wanted.val_count = 2;
+    wanted.max_word = bits(wanted.range_max);
+    uint8_t *image = lent_image();
+    mdf_parsed parsed = mdf_parse(image, built_len, 0);
+    expect(parsed.refusal == 0 && parsed.address == 0 && same_block(parsed.block, wanted), "parse what was written");
+    give_back_image(image, "parse what was written");
+    writes("write what was parsed", parsed.block, built_len, 0);
+}
+
+static void write_cases(void) {
+    build_all_fields();
+    writes("write a block with every field, room to spare", all_fields(), built_len + 9, 0);
+    writes("write a block with every field, just enough room", all_fields(), built_len, 0);
+    writes("write: 8 Room, one byte short", all_fields(), built_len - 1, MDF_REFUSED_ROOM);
+    writes("write: 8 Room, no room", all_fields(), 0, MDF_REFUSED_ROOM);
+    parses_what_was_written();
+}
+
+/* No references, no values and no range: 64 bytes, with empty slices. */
+static void write_smallest(void) {
+    uint64_t nothing = 0;
+    mdf_block b = {.range_min = 1, .range_max = 2, .min_word = 3, .max_word = 4, .ranged = false};
+    uint8_t *out = lent_out(ROOM);
+    begin();
+    uint64_t address = of_refs(0, NULL, 0);
+    mdf_written w = mdf_write(b, &nothing, 0, &nothing, 0, out, ROOM);
+    expect(w.refusal == 0 && w.length == 64 && holds(out, ROOM, built + address, 64), "write the smallest block");
+    give_back_out(out);
+}
+
+static void writes_so_many(const char *name, size_t values, size_t room, uint32_t refusal) {
+    static const mdf_block b;
+    uint64_t nothing = 0, *words = taken(8 * values);
+    uint8_t *out = lent_out(room);
+    memset(words, 0, 8 * values);
+    mdf_written w = mdf_write(b, &nothing, 0, words, values, out, room);
+    bool counted = refusal || (out[62] == 0xff && out[63] == 0xff);
+    expect(w.refusal == refusal && w.length == (refusal ? 0 : 64 + 8 * values) && counted, name);
+    if (refusal) expect(holds(out, room, "", 0), name);
+    free(words);
+    give_back_out(out);
+}
+
+static void write_counts(void) {
+    writes_so_many("write 65,535 values", 65535, 64 + 8 * 65535, 0);
+    writes_so_many("write 65,536 values: 9 Count", 65536, 64 + 8 * 65536, MDF_REFUSED_COUNT);
+    writes_so_many("9 before 8", 65536, 0, MDF_REFUSED_COUNT);
+    writes_so_many("write 65,535 values: 8 Room", 65535, 64 + 8 * 65535 - 1, MDF_REFUSED_ROOM);
+}
+
+int main(void) {
+    linear_cases();
+    rounding_cases();
+    rational_cases();
+    table_cases();
+    range_to_text_cases();
+    range_to_value_cases();
+    range_field_cases();
+    bit_group_cases();
+    visit_cases();
+    deep_cases();
+    outside_cases();
+    other_block_cases();
+    short_cases();
+    loop_cases();
+    formula_cases();
+    text_cases();
+    translation_cases();
+    parse_refusals();
+    write_cases();
+    write_smallest();
+    write_counts();
+    printf("C face: %d cases passed, %d failed\n", passed, failed);
+    return failed ? 1 : 0;
+}

@@ -1,0 +1,134 @@
+//! A conversion applied to a value.
+use crate::raw;
+use crate::refusal::{Refusal, Visits};
+
+/// A value to convert.
+#[derive(Clone, Copy, Debug, PartialEq)]
+pub enum Value<'a> {
+    /// An unsigned whole number.
+    UnsignedInteger(u64),
+    /// A signed whole number. Bit groups see its 64 bits in two's complement.
+    SignedInteger(i64),
+    /// A float.
+    Float(f64),
+    /// The bytes of a text, with no zero at its end.
+    Text(&'a [u8]),
+    /// A value of any other kind. It stays unchanged.
+    Other,
+}
+
+/// What a conversion gives for a value.
+#[derive(Clone, Copy, Debug, PartialEq)]
+pub enum Answer {
+    /// A number.
+    Number(f64),
+    /// A text of so many bytes, which stands at the front of the output buffer.
+    Text(usize),
+    /// The value stays as it is.
+    Unchanged,
+    /// The value has no counterpart.
+    Unknown,
+}
+
+/// An answer, and how many blocks were visited for it.
+#[derive(Clone, Copy, Debug, PartialEq)]
+pub struct Applied {
+    /// What the conversion gives.
+    pub answer: Answer,
+    /// The visits of the check and of applying.
+    pub visits: Visits,
+}
+
+/// Checks as [`check`](crate::check) does, then applies the conversion at `address` to a value.
+///
+/// Afterwards the text of an [`Answer::Text`] stands in `out` from byte 0 on and the bytes behind it are as they were. After any other answer, and
+/// after every refusal, all of `out` is as it was.
+///
+/// # Errors
+///
+/// Refusals 1 to 6 of the check, then 7 [`Refusal::Formula`], then 8 [`Refusal::Room`]. The last two carry the visits.
+///
+/// ```
+/// use mdf_conversion::{apply, Answer, Refusal, Value, Visits};
+///
+/// let image = std::fs::read("../../samples/tractor.mdf").unwrap();
+/// let mut out = *b"....................";
+///
+/// // Oil temperature, a range to text with a default conversion, stands at 1824.
+/// let cold = apply(&image, 1824, 4096, Value::UnsignedInteger(10), &mut out)?;
+/// assert_eq!(cold.answer, Answer::Text(4));
+/// assert_eq!(&out, b"cold................");
+/// assert_eq!(cold.visits, Visits { checked: 2, applied: 1 });
+///
+/// let degrees = apply(&image, 1824, 4096, Value::UnsignedInteger(100), &mut out)?;
+/// assert_eq!(degrees.answer, Answer::Number(10.0));
+///
+/// // Lamp command, a text to value, stands at 2280.
+/// let lamp = apply(&image, 2280, 4096, Value::Text(b"on"), &mut out)?;
+/// assert_eq!(lamp.answer, Answer::Number(1.0));
+///
+/// // Slip, a formula, stands at 816.
+/// let slip = apply(&image, 816, 4096, Value::Float(0.5), &mut out);
+/// assert_eq!(slip, Err(Refusal::Formula(Visits { checked: 1, applied: 1 })));
+/// # Ok::<(), Refusal>(())
+/// ```
+pub fn apply(image: &[u8], address: u64, limit: u32, value: Value<'_>, out: &mut [u8]) -> Result<Applied, Refusal> {
+    let applied = call(image, address, limit, value, out);
+    let visits = Visits { checked: applied.checked, applied: applied.applied };
+    match applied.refusal {
+        0 => Ok(Applied { answer: answer_of(&applied), visits }),
+        7 => Err(Refusal::Formula(visits)),
+        8 => Err(Refusal::Room(Some(visits))),
+        number => Err(Refusal::at(number, applied.address)),
+    }
+}
+
+fn call(image: &[u8], address: u64, limit: u32, value: Value<'_>, out: &mut [u8]) -> raw::Applied {
+    let (from, len) = (image.as_ptr(), image.len());
+    let (to, room) = (out.as_mut_ptr(), out.len());
+    // SAFETY: each pointer and length are those of one slice, and `out`, which is lent for writing, shares no byte with the others.
+    unsafe {
+        match value {
+            Value::UnsignedInteger(number) => raw::mdf_apply_unsigned(from, len, address, limit, number, to, room),
+            Value::SignedInteger(number) => raw::mdf_apply_signed(from, len, address, limit, number, to, room),
+            Value::Float(number) => raw::mdf_apply_float(from, len, address, limit, number, to, room),
+            Value::Text(text) => raw::mdf_apply_text(from, len, address, limit, text.as_ptr(), text.len(), to, room),
+            Value::Other => raw::mdf_apply_other(from, len, address, limit, to, room),
+        }
+    }
+}
+
+fn answer_of(applied: &raw::Applied) -> Answer {
+    match applied.kind {
+        1 => Answer::Number(applied.number),
+        2 => Answer::Text(applied.length as usize),
+        3 => Answer::Unchanged,
+        4 => Answer::Unknown,
+        kind => unreachable!("the archive answers with the kind {kind}"),
+    }
+}
+
+/// Translates a text without copying it.
+///
+/// Answers the part of the image with the text that a text to text conversion (type 10) chooses for the question. Answers the question itself where
+/// the check refuses, the root has another type, or no text is chosen. Names no refusal.
+///
+/// ```
+/// use mdf_conversion::translate;
+///
+/// let image = std::fs::read("../../samples/tractor.mdf").unwrap();
+///
+/// // Fault text, a text to text, stands at 2384.
+/// assert_eq!(translate(&image, 2384, 4096, b"E1"), b"oil pressure low");
+/// assert_eq!(translate(&image, 2384, 4096, b"E9"), b"fault not known");
+/// // A linear conversion stands at 528.
+/// assert_eq!(translate(&image, 528, 4096, b"E1"), b"E1");
+/// ```
+pub fn translate<'a>(image: &'a [u8], address: u64, limit: u32, question: &'a [u8]) -> &'a [u8] {
+    // SAFETY: each pointer and length are those of one slice.
+    let shown = unsafe { raw::mdf_translate(image.as_ptr(), image.len(), address, limit, question.as_ptr(), question.len()) };
+    match shown.from_image {
+        0 => question,
+        _ => &image[shown.start as usize..][..shown.length as usize],
+    }
+}

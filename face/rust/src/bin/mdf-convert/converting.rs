@@ -1,0 +1,89 @@
+//! Values converted, and their answers printed.
+use crate::arguments::{value_of, Kind};
+use crate::printing::{line, number};
+use crate::Stop;
+use mdf_conversion::{apply, Answer, Applied, Refusal, Value};
+use std::io::{BufRead, BufReader, Read, Write};
+
+const FIRST_ROOM: usize = 1 << 12;
+const MOST_ROOM: usize = 1 << 28;
+
+type Outcome = Result<Applied, Refusal>;
+
+/// Applies one conversion. Its output buffer grows with the texts.
+pub struct Converter<'a> {
+    image: &'a [u8],
+    address: u64,
+    limit: u32,
+    out: Vec<u8>,
+}
+
+impl<'a> Converter<'a> {
+    pub fn new(image: &'a [u8], address: u64, limit: u32) -> Converter<'a> {
+        Converter { image, address, limit, out: vec![0; FIRST_ROOM] }
+    }
+
+    fn convert(&mut self, value: Value<'_>) -> Outcome {
+        loop {
+            match apply(self.image, self.address, self.limit, value, &mut self.out) {
+                Err(Refusal::Room(_)) if self.out.len() < MOST_ROOM => self.out.resize(2 * self.out.len(), 0),
+                outcome => return outcome,
+            }
+        }
+    }
+
+    // The line of the outcome of the last call.
+    fn shown(&self, outcome: &Outcome) -> String {
+        match outcome {
+            Err(refusal) => refusal.to_string(),
+            Ok(applied) => match applied.answer {
+                Answer::Number(x) => format!("number {}", number(x)),
+                Answer::Text(length) => format!("text {}", line(&self.out[..length])),
+                Answer::Unchanged => "unchanged".into(),
+                Answer::Unknown => "unknown".into(),
+            },
+        }
+    }
+
+    /// Prints the answer for one value, and on a second line the visits. Answers whether nothing was refused.
+    pub fn convert_one(mut self, value: Value<'_>, out: &mut impl Write) -> Result<bool, Stop> {
+        let outcome = self.convert(value);
+        writeln!(out, "{}\n{}", self.shown(&outcome), visits(&outcome))?;
+        Ok(outcome.is_ok())
+    }
+
+    /// Prints the answer for each line of the input, up to a line that is no value. Answers whether nothing was refused.
+    pub fn convert_lines(mut self, kind: Kind, input: impl Read, out: &mut impl Write) -> Result<bool, Stop> {
+        let (mut input, mut all_answered, mut count) = (BufReader::new(input), true, 0u64);
+        while let Some(bytes) = next_line(&mut input, out)? {
+            count += 1;
+            let value = value_of(kind, &bytes).map_err(|why| Stop::Bad(format!("line {count} of standard input: {why}")))?;
+            let outcome = self.convert(value);
+            writeln!(out, "{}", self.shown(&outcome))?;
+            all_answered &= outcome.is_ok();
+        }
+        Ok(all_answered)
+    }
+}
+
+// A refusal of the check has no visits: 0 and 0.
+fn visits(outcome: &Outcome) -> String {
+    let visits = match outcome {
+        Ok(applied) => applied.visits,
+        Err(refusal) => refusal.visits().unwrap_or_default(),
+    };
+    format!("checked {} applied {}", visits.checked, visits.applied)
+}
+
+// The next line without its end. Before the input is waited for, the answers so far are handed on.
+fn next_line(input: &mut BufReader<impl Read>, out: &mut impl Write) -> Result<Option<Vec<u8>>, Stop> {
+    if !input.buffer().contains(&b'\n') {
+        out.flush()?;
+    }
+    let mut bytes = Vec::new();
+    let length = input.read_until(b'\n', &mut bytes).map_err(|error| Stop::Bad(format!("standard input: {error}")))?;
+    if bytes.last() == Some(&b'\n') {
+        bytes.pop();
+    }
+    Ok((length > 0).then_some(bytes))
+}

@@ -1,0 +1,262 @@
+//! One ##CC block, parsed and written.
+use crate::raw;
+use crate::refusal::Refusal;
+use crate::types::ConversionType;
+
+const HEADER_AND_FIXED_LINKS: usize = 24 + 8 * 4;
+const FIELDS: usize = 8;
+const RANGE: usize = 16;
+
+/// The physical range of a conversion.
+#[derive(Clone, Copy, Debug, PartialEq)]
+pub struct PhysicalRange {
+    /// The lower bound.
+    pub min: f64,
+    /// The upper bound.
+    pub max: f64,
+}
+
+/// The fields of a ##CC block. A link is an address, and `None` where it is 0, which leads nowhere.
+///
+/// References and values are read from the image by [`cc_ref`](Self::cc_ref) and [`cc_val`](Self::cc_val).
+#[derive(Clone, Copy, Debug, PartialEq)]
+pub struct ConversionBlock {
+    /// The block's length in bytes, as written in its header.
+    pub block_len: u64,
+    /// The link count, as written in the header.
+    pub links_nr: u64,
+    /// The link to the name.
+    pub cc_tx_name: Option<u64>,
+    /// The link to the unit.
+    pub cc_md_unit: Option<u64>,
+    /// The link to the comment.
+    pub cc_md_comment: Option<u64>,
+    /// The link to the inverse conversion.
+    pub cc_cc_inverse: Option<u64>,
+    /// The type.
+    pub cc_type: ConversionType,
+    /// The precision.
+    pub cc_precision: u8,
+    /// The flags.
+    pub cc_flags: u16,
+    /// The reference count field. The block has `links_nr` - 4 references, none below 4 links.
+    pub cc_ref_count: u16,
+    /// How many values the block has.
+    pub cc_val_count: u16,
+    /// The range, whole or not at all. A bound that is a NaN keeps its bits.
+    pub cc_phy_range: Option<PhysicalRange>,
+}
+
+impl ConversionBlock {
+    /// A block of this type to be filled and written: no links, no range, and every number 0.
+    pub fn new(cc_type: ConversionType) -> ConversionBlock {
+        ConversionBlock {
+            block_len: 0,
+            links_nr: 0,
+            cc_tx_name: None,
+            cc_md_unit: None,
+            cc_md_comment: None,
+            cc_cc_inverse: None,
+            cc_type,
+            cc_precision: 0,
+            cc_flags: 0,
+            cc_ref_count: 0,
+            cc_val_count: 0,
+            cc_phy_range: None,
+        }
+    }
+
+    /// Reads the fields of the one block at `address`.
+    ///
+    /// # Errors
+    ///
+    /// Refusal 1, 2 or 4.
+    ///
+    /// ```
+    /// use mdf_conversion::{ConversionBlock, ConversionType, PhysicalRange, Refusal};
+    ///
+    /// let image = std::fs::read("../../samples/tractor.mdf").unwrap();
+    ///
+    /// // Fuel rate, a rational conversion, stands at 688.
+    /// let block = ConversionBlock::parse(&image, 688)?;
+    /// assert_eq!(block.cc_type, ConversionType::Rational);
+    /// assert_eq!(block.cc_phy_range, Some(PhysicalRange { min: 0.0, max: 60.5 }));
+    /// assert_eq!(block.cc_md_comment, None);
+    ///
+    /// // A text stands at 64.
+    /// assert_eq!(ConversionBlock::parse(&image, 64), Err(Refusal::NotConversion(64)));
+    /// # Ok::<(), Refusal>(())
+    /// ```
+    pub fn parse(image: &[u8], address: u64) -> Result<ConversionBlock, Refusal> {
+        // SAFETY: pointer and length are those of one slice.
+        let parsed = unsafe { raw::mdf_parse(image.as_ptr(), image.len(), address) };
+        match parsed.refusal {
+            0 => Ok(ConversionBlock::of_raw(&parsed.block)),
+            number => Err(Refusal::at(number, parsed.address)),
+        }
+    }
+
+    /// The references of the block at `address`, in order. A reference of 0 leads nowhere.
+    ///
+    /// # Errors
+    ///
+    /// Those of [`parse`](Self::parse).
+    ///
+    /// ```
+    /// use mdf_conversion::{ConversionBlock, Refusal};
+    ///
+    /// let image = std::fs::read("../../samples/tractor.mdf").unwrap();
+    ///
+    /// // Transmission, bit groups, stands at 2488. It leads to a conversion and a text.
+    /// let refs: Vec<u64> = ConversionBlock::cc_ref(&image, 2488)?.collect();
+    /// assert_eq!(refs, [1664, 1456]);
+    /// # Ok::<(), Refusal>(())
+    /// ```
+    pub fn cc_ref(image: &[u8], address: u64) -> Result<impl ExactSizeIterator<Item = u64> + Clone + '_, Refusal> {
+        let block = ConversionBlock::parse(image, address)?;
+        Ok(words(image, address as usize + HEADER_AND_FIXED_LINKS, block.references()))
+    }
+
+    /// The values of the block at `address`, in order. Each keeps its 64 bits: the masks of bit groups are those of [`f64::to_bits`].
+    ///
+    /// # Errors
+    ///
+    /// Those of [`parse`](Self::parse).
+    ///
+    /// ```
+    /// use mdf_conversion::{ConversionBlock, Refusal};
+    ///
+    /// let image = std::fs::read("../../samples/tractor.mdf").unwrap();
+    ///
+    /// // Transmission, bit groups, stands at 2488.
+    /// let masks: Vec<u64> = ConversionBlock::cc_val(&image, 2488)?.map(f64::to_bits).collect();
+    /// assert_eq!(masks, [0x3, 0xc]);
+    /// # Ok::<(), Refusal>(())
+    /// ```
+    pub fn cc_val(image: &[u8], address: u64) -> Result<impl ExactSizeIterator<Item = f64> + Clone + '_, Refusal> {
+        let block = ConversionBlock::parse(image, address)?;
+        let range = if block.cc_phy_range.is_some() { RANGE } else { 0 };
+        let first = address as usize + HEADER_AND_FIXED_LINKS + 8 * block.references() + FIELDS + range;
+        Ok(words(image, first, usize::from(block.cc_val_count)).map(f64::from_bits))
+    }
+
+    /// Writes the block with these references and values, each value as its 64 bits, and answers how many bytes it wrote.
+    ///
+    /// The link count is 4 and the number of references, the value count the number of values, the block length what is written: `links_nr`,
+    /// `cc_val_count` and `block_len` are not looked at. Afterwards the block stands in `out` from byte 0 on and the bytes behind it are as they
+    /// were. After a refusal all of `out` is as it was.
+    ///
+    /// # Errors
+    ///
+    /// Refusal 9 [`Refusal::Count`], then 8 [`Refusal::Room`].
+    ///
+    /// ```
+    /// use mdf_conversion::{ConversionBlock, ConversionType, Refusal};
+    ///
+    /// // What was parsed is written as it was.
+    /// let image = std::fs::read("../../samples/tractor.mdf").unwrap();
+    /// let block = ConversionBlock::parse(&image, 2488)?;
+    /// let refs: Vec<u64> = ConversionBlock::cc_ref(&image, 2488)?.collect();
+    /// let values: Vec<f64> = ConversionBlock::cc_val(&image, 2488)?.collect();
+    /// let mut out = [0; 128];
+    /// let length = block.write(&refs, &values, &mut out)?;
+    /// assert_eq!(out[..length], image[2488..][..length]);
+    ///
+    /// // A new block.
+    /// let linear = ConversionBlock { cc_precision: 3, ..ConversionBlock::new(ConversionType::Linear) };
+    /// assert_eq!(linear.write(&[], &[0.0, 0.125], &mut out), Ok(80));
+    /// assert_eq!(linear.write(&[], &[0.0, 0.125], &mut out[..79]), Err(Refusal::Room(None)));
+    /// # Ok::<(), Refusal>(())
+    /// ```
+    pub fn write(&self, cc_ref: &[u64], cc_val: &[f64], out: &mut [u8]) -> Result<usize, Refusal> {
+        // SAFETY: pointer and length are those of one slice; f64 and u64 have the same size and alignment here, and any 64 bits are a u64.
+        let cc_val = unsafe { core::slice::from_raw_parts(cc_val.as_ptr().cast::<u64>(), cc_val.len()) };
+        self.write_words(cc_ref, cc_val, out)
+    }
+
+    /// Writes the block as [`write`](Self::write) does, with the 64 bits of each value.
+    ///
+    /// # Errors
+    ///
+    /// Those of [`write`](Self::write).
+    ///
+    /// ```
+    /// use mdf_conversion::{apply, Answer, ConversionBlock, ConversionType, Refusal, Value};
+    ///
+    /// // Bit groups of two masks and no texts, in an image of their own.
+    /// let mut image = [0; 96];
+    /// let groups = ConversionBlock::new(ConversionType::BitfieldText);
+    /// assert_eq!(groups.write_words(&[0, 0], &[3, 12], &mut image), Ok(96));
+    /// assert_eq!(apply(&image, 0, 1, Value::UnsignedInteger(6), &mut [])?.answer, Answer::Text(0));
+    /// # Ok::<(), Refusal>(())
+    /// ```
+    pub fn write_words(&self, cc_ref: &[u64], words: &[u64], out: &mut [u8]) -> Result<usize, Refusal> {
+        let (refs, words) = ((cc_ref.as_ptr(), cc_ref.len()), (words.as_ptr(), words.len()));
+        // SAFETY: each pointer and length are those of one slice, and `out`, which is lent for writing, shares no byte with the others.
+        let written = unsafe { raw::mdf_write(self.to_raw(), refs.0, refs.1, words.0, words.1, out.as_mut_ptr(), out.len()) };
+        match written.refusal {
+            0 => Ok(written.length as usize),
+            8 => Err(Refusal::Room(None)),
+            9 => Err(Refusal::Count),
+            number => unreachable!("the archive refuses with the number {number}"),
+        }
+    }
+
+    // Of a parsed block, which lies whole in its image, so that the number fits.
+    fn references(&self) -> usize {
+        self.links_nr.saturating_sub(4) as usize
+    }
+
+    fn of_raw(block: &raw::Block) -> ConversionBlock {
+        let range = PhysicalRange { min: f64::from_bits(block.min_word), max: f64::from_bits(block.max_word) };
+        ConversionBlock {
+            block_len: block.length,
+            links_nr: block.links,
+            cc_tx_name: link(block.name),
+            cc_md_unit: link(block.unit),
+            cc_md_comment: link(block.comment),
+            cc_cc_inverse: link(block.inverse),
+            cc_type: ConversionType::from_u8(block.kind),
+            cc_precision: block.precision,
+            cc_flags: block.flags,
+            cc_ref_count: block.ref_count,
+            cc_val_count: block.val_count,
+            cc_phy_range: block.ranged.then_some(range),
+        }
+    }
+
+    fn to_raw(self) -> raw::Block {
+        let range = self.cc_phy_range.unwrap_or(PhysicalRange { min: 0.0, max: 0.0 });
+        raw::Block {
+            length: self.block_len,
+            links: self.links_nr,
+            name: self.cc_tx_name.unwrap_or(0),
+            unit: self.cc_md_unit.unwrap_or(0),
+            comment: self.cc_md_comment.unwrap_or(0),
+            inverse: self.cc_cc_inverse.unwrap_or(0),
+            range_min: range.min,
+            range_max: range.max,
+            min_word: range.min.to_bits(),
+            max_word: range.max.to_bits(),
+            flags: self.cc_flags,
+            ref_count: self.cc_ref_count,
+            val_count: self.cc_val_count,
+            kind: self.cc_type.to_u8(),
+            precision: self.cc_precision,
+            ranged: self.cc_phy_range.is_some(),
+        }
+    }
+}
+
+fn link(address: u64) -> Option<u64> {
+    (address != 0).then_some(address)
+}
+
+// The little-endian words of a part that lies in the image.
+fn words(image: &[u8], start: usize, count: usize) -> impl ExactSizeIterator<Item = u64> + Clone + '_ {
+    image[start..start + 8 * count].chunks_exact(8).map(|bytes| {
+        let mut word = [0; 8];
+        word.copy_from_slice(bytes);
+        u64::from_le_bytes(word)
+    })
+}

@@ -1,0 +1,45 @@
+//! MDF 4 conversion blocks (##CC): checked, applied to values, parsed and written.
+//!
+//! Every call works on an image that is lent to it: the bytes of an MDF 4 file, or any bytes at all. An address is a place in the image, counted
+//! from 0. No image, address, value or length makes a call misbehave or run on: a call answers, or it refuses with a number ([`Refusal`]).
+//!
+//! The work is done by an archive of proved code. This crate hands it slices and turns its answers into Rust's types. It has no dependencies, needs
+//! no standard library and no heap, and keeps nothing between calls.
+//!
+//! ```
+//! use mdf_conversion::{apply, Answer, Refusal, Value};
+//!
+//! let image = std::fs::read("../../samples/tractor.mdf").unwrap();
+//! let mut out = [0; 64];
+//!
+//! // Torque, a linear conversion, stands at 528.
+//! let torque = apply(&image, 528, 4096, Value::SignedInteger(-3), &mut out)?;
+//! assert_eq!(torque.answer, Answer::Number(-0.375));
+//!
+//! // Transmission, bit groups, stands at 2488.
+//! let transmission = apply(&image, 2488, 4096, Value::UnsignedInteger(6), &mut out)?;
+//! assert_eq!(transmission.answer, Answer::Text(14));
+//! assert_eq!(&out[..14], b"Gear = Low|PTO");
+//! # Ok::<(), Refusal>(())
+//! ```
+#![no_std]
+#![warn(missing_docs)]
+
+#[cfg(not(target_arch = "x86_64"))]
+compile_error!("the archive of the proved code is for x86-64");
+
+#[cfg(test)]
+extern crate std;
+
+mod applying;
+mod block;
+mod checking;
+mod raw;
+mod refusal;
+mod types;
+
+pub use applying::{apply, translate, Answer, Applied, Value};
+pub use block::{ConversionBlock, PhysicalRange};
+pub use checking::check;
+pub use refusal::{Refusal, Visits};
+pub use types::ConversionType;

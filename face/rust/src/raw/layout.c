@@ -1,0 +1,58 @@
+/* Prints size, alignment and the place of each field of the structs of mdf_conversion.h, one struct to a line. */
+#include "mdf_conversion.h"
+
+#include <stdio.h>
+
+#define BEGIN(type) printf("%s %zu %zu:", #type, sizeof(type), _Alignof(type))
+#define FIELD(type, field) printf(" %s %zu", #field, offsetof(type, field))
+#define END() printf("\n")
+
+int main(void) {
+    BEGIN(mdf_checked);
+    FIELD(mdf_checked, refusal);
+    FIELD(mdf_checked, visits);
+    FIELD(mdf_checked, address);
+    END();
+    BEGIN(mdf_applied);
+    FIELD(mdf_applied, refusal);
+    FIELD(mdf_applied, kind);
+    FIELD(mdf_applied, number);
+    FIELD(mdf_applied, length);
+    FIELD(mdf_applied, address);
+    FIELD(mdf_applied, checked);
+    FIELD(mdf_applied, applied);
+    END();
+    BEGIN(mdf_shown);
+    FIELD(mdf_shown, from_image);
+    FIELD(mdf_shown, start);
+    FIELD(mdf_shown, length);
+    END();
+    BEGIN(mdf_block);
+    FIELD(mdf_block, length);
+    FIELD(mdf_block, links);
+    FIELD(mdf_block, name);
+    FIELD(mdf_block, unit);
+    FIELD(mdf_block, comment);
+    FIELD(mdf_block, inverse);
+    FIELD(mdf_block, range_min);
+    FIELD(mdf_block, range_max);
+    FIELD(mdf_block, min_word);
+    FIELD(mdf_block, max_word);
+    FIELD(mdf_block, flags);
+    FIELD(mdf_block, ref_count);
+    FIELD(mdf_block, val_count);
+    FIELD(mdf_block, kind);
+    FIELD(mdf_block, precision);
+    FIELD(mdf_block, ranged);
+    END();
+    BEGIN(mdf_parsed);
+    FIELD(mdf_parsed, refusal);
+    FIELD(mdf_parsed, address);
+    FIELD(mdf_parsed, block);
+    END();
+    BEGIN(mdf_written);
+    FIELD(mdf_written, refusal);
+    FIELD(mdf_written, length);
+    END();
+    return 0;
+}

@@ -1,0 +1,135 @@
+//! Why a call refused.
+use core::error::Error;
+use core::fmt;
+
+/// How many blocks a call of [`apply`](crate::apply) visited. A block that is reached twice counts twice.
+#[derive(Clone, Copy, Debug, Default, PartialEq, Eq, Hash)]
+pub struct Visits {
+    /// N, the visits of the check.
+    pub checked: u32,
+    /// M, the visits of applying.
+    pub applied: u32,
+}
+
+/// Why a call refused. A call that refuses leaves its output buffer as it was.
+///
+/// 1 to 6 carry the address of the block or link. 7, and 8 where it comes from applying, carry the visits of both walks.
+///
+/// ```
+/// use mdf_conversion::{apply, Refusal, Value, Visits};
+///
+/// let image = std::fs::read("../../samples/tractor.mdf").unwrap();
+///
+/// // Bit groups whose text has 14 bytes, and 13 bytes of room.
+/// let refusal = apply(&image, 2488, 4096, Value::UnsignedInteger(6), &mut [0; 13]).unwrap_err();
+/// assert_eq!(refusal.number(), 8);
+/// assert_eq!(refusal.visits(), Some(Visits { checked: 2, applied: 2 }));
+/// assert_eq!(refusal.to_string(), "refused 8 Room");
+///
+/// // Two conversions that lead to each other.
+/// let refusal = apply(&image, 3424, 4096, Value::UnsignedInteger(1), &mut []).unwrap_err();
+/// assert_eq!(refusal, Refusal::Loop(3424));
+/// assert_eq!(refusal.to_string(), "refused 6 Loop at 3424");
+/// ```
+#[derive(Clone, Copy, Debug, PartialEq, Eq, Hash)]
+#[non_exhaustive]
+pub enum Refusal {
+    /// 1: the root's address + 24 is beyond the image.
+    Outside(u64),
+    /// 2: the root's id is not ##CC.
+    NotConversion(u64),
+    /// 3: a visit would exceed the visit limit.
+    Limit(u64),
+    /// 4: the image ends inside a ##CC block.
+    Short(u64),
+    /// 5: a block at depth 21; the root has depth 0.
+    Deep(u64),
+    /// 6: a link back to a block on the current path.
+    Loop(u64),
+    /// 7: applying reaches a formula (type 3) with a number. M counts the blocks up to and with the formula.
+    Formula(Visits),
+    /// 8: the text or block is longer than the output buffer. Without visits where a block was to be written.
+    Room(Option<Visits>),
+    /// 9: more than 65,535 values to write.
+    Count,
+}
+
+impl Refusal {
+    /// The refusal's number, 1 to 9.
+    pub fn number(&self) -> u32 {
+        match self {
+            Refusal::Outside(_) => 1,
+            Refusal::NotConversion(_) => 2,
+            Refusal::Limit(_) => 3,
+            Refusal::Short(_) => 4,
+            Refusal::Deep(_) => 5,
+            Refusal::Loop(_) => 6,
+            Refusal::Formula(_) => 7,
+            Refusal::Room(_) => 8,
+            Refusal::Count => 9,
+        }
+    }
+
+    /// The refusal's name, such as `Deep`.
+    pub fn name(&self) -> &'static str {
+        match self {
+            Refusal::Outside(_) => "Outside",
+            Refusal::NotConversion(_) => "NotConversion",
+            Refusal::Limit(_) => "Limit",
+            Refusal::Short(_) => "Short",
+            Refusal::Deep(_) => "Deep",
+            Refusal::Loop(_) => "Loop",
+            Refusal::Formula(_) => "Formula",
+            Refusal::Room(_) => "Room",
+            Refusal::Count => "Count",
+        }
+    }
+
+    /// The address of the block or link, for 1 to 6.
+    pub fn address(&self) -> Option<u64> {
+        match *self {
+            Refusal::Outside(address)
+            | Refusal::NotConversion(address)
+            | Refusal::Limit(address)
+            | Refusal::Short(address)
+            | Refusal::Deep(address)
+            | Refusal::Loop(address) => Some(address),
+            Refusal::Formula(_) | Refusal::Room(_) | Refusal::Count => None,
+        }
+    }
+
+    /// The visits of both walks, for 7 and 8 of an application.
+    pub fn visits(&self) -> Option<Visits> {
+        match *self {
+            Refusal::Formula(visits) => Some(visits),
+            Refusal::Room(visits) => visits,
+            _ => None,
+        }
+    }
+
+    /// A refusal of the check or of parsing, by its number.
+    pub(crate) fn at(number: u32, address: u64) -> Refusal {
+        match number {
+            1 => Refusal::Outside(address),
+            2 => Refusal::NotConversion(address),
+            3 => Refusal::Limit(address),
+            4 => Refusal::Short(address),
+            5 => Refusal::Deep(address),
+            6 => Refusal::Loop(address),
+            _ => unreachable!("the archive refuses with the number {number}"),
+        }
+    }
+}
+
+/// Writes `refused`, the number, the name and, if there is one, the address.
+impl fmt::Display for Refusal {
+    fn fmt(&self, f: &mut fmt::Formatter<'_>) -> fmt::Result {
+        write!(f, "refused {} {}", self.number(), self.name())?;
+        match self.address() {
+            Some(address) => write!(f, " at {address}"),
+            None => Ok(()),
+        }
+    }
+}
+
+impl Error for Refusal {}

@@ -1,0 +1,300 @@
+//! Every line of document 01's "Cases", and every refusal from 1 to 9, through the safe functions.
+mod image;
+
+use image::Image;
+use mdf_conversion::{apply, check, translate, Answer, Applied, ConversionBlock, ConversionType, PhysicalRange, Refusal, Value, Visits};
+
+const LIMIT: u32 = 4096;
+const FILL: u8 = 0xa5;
+
+use Value::{Float, Other, SignedInteger as Signed, Text, UnsignedInteger as Unsigned};
+
+/// Applies with so much room in the middle of a larger buffer. All but the text of the answer has to stay as it was.
+fn apply_in(image: &Image, address: u64, limit: u32, value: Value<'_>, room: usize) -> (Result<Applied, Refusal>, Vec<u8>) {
+    let mut buffer = vec![FILL; room + 64];
+    let outcome = apply(&image.bytes, address, limit, value, &mut buffer[32..32 + room]);
+    let length = match outcome {
+        Ok(Applied { answer: Answer::Text(length), .. }) => length,
+        _ => 0,
+    };
+    let text = buffer[32..32 + length].to_vec();
+    buffer[32..32 + length].fill(FILL);
+    assert!(buffer.iter().all(|byte| *byte == FILL), "a byte outside the answer has changed");
+    (outcome, text)
+}
+
+fn visits(checked: u32, applied: u32) -> Visits {
+    Visits { checked, applied }
+}
+
+fn answers(image: &Image, address: u64, value: Value<'_>, answer: Answer) {
+    let (outcome, _) = apply_in(image, address, LIMIT, value, 64);
+    assert_eq!(outcome, Ok(Applied { answer, visits: visits(1, 1) }));
+}
+
+fn gives_text(image: &Image, address: u64, value: Value<'_>, text: &[u8], seen: Visits) {
+    let (outcome, written) = apply_in(image, address, LIMIT, value, 64);
+    assert_eq!(outcome, Ok(Applied { answer: Answer::Text(text.len()), visits: seen }));
+    assert_eq!(written, text);
+}
+
+/// The check refuses, and so does applying each kind of value.
+fn is_unsound(image: &Image, address: u64, limit: u32, refusal: Refusal) {
+    assert_eq!(check(&image.bytes, address, limit), Err(refusal));
+    for value in [Unsigned(1), Signed(-1), Float(0.5), Text(b"x"), Other] {
+        assert_eq!(apply_in(image, address, limit, value, 64).0, Err(refusal));
+    }
+}
+
+#[test]
+fn linear() {
+    let mut image = Image::new();
+    let torque = image.block(1, &[], &[0.0, 0.125]);
+    let one = image.block(1, &[], &[0.0]);
+    answers(&image, torque, Signed(-3), Answer::Number(-0.375));
+    answers(&image, torque, Text(b"no signal"), Answer::Unchanged);
+    answers(&image, torque, Other, Answer::Unchanged);
+    answers(&image, one, Unsigned(7), Answer::Number(7.0));
+}
+
+#[test]
+fn whole_numbers_are_rounded() {
+    let mut image = Image::new();
+    let one = image.block(1, &[], &[0.0]);
+    answers(&image, one, Unsigned(9007199254740993), Answer::Number(9007199254740992.0));
+    answers(&image, one, Unsigned(9007199254740995), Answer::Number(9007199254740996.0));
+    answers(&image, one, Unsigned(u64::MAX), Answer::Number(18446744073709551616.0));
+}
+
+#[test]
+fn rational() {
+    let mut image = Image::new();
+    let rational = image.block(2, &[], &[0.0, 1.0, 0.0, 0.0, 0.0, 0.0]);
+    answers(&image, rational, Unsigned(4), Answer::Number(f64::INFINITY));
+    let (outcome, _) = apply_in(&image, rational, LIMIT, Unsigned(0), 0);
+    assert!(matches!(outcome, Ok(Applied { answer: Answer::Number(x), .. }) if x.is_nan()));
+}
+
+#[test]
+fn tables() {
+    let mut image = Image::new();
+    let pairs = [0.0, 10.0, 10.0, 20.0, 20.0, 60.0];
+    let (interpolated, nearest) = (image.block(4, &[], &pairs), image.block(5, &[], &pairs));
+    answers(&image, interpolated, Unsigned(15), Answer::Number(40.0));
+    answers(&image, nearest, Unsigned(15), Answer::Number(20.0));
+    answers(&image, nearest, Unsigned(16), Answer::Number(60.0));
+    answers(&image, interpolated, Signed(-1), Answer::Number(10.0));
+    answers(&image, nearest, Signed(-1), Answer::Number(10.0));
+}
+
+#[test]
+fn range_to_text() {
+    let mut image = Image::new();
+    let texts = [image.text(b"index 0"), image.text(b"index 1"), image.text(b"index 2")];
+    let two = image.block(8, &texts, &[0.0, 10.0, 10.0, 20.0]);
+    let odd = image.block(8, &texts[..1], &[0.0, 10.0, 10.0]);
+    let odd_nil = image.block(8, &[0], &[0.0, 10.0, 10.0]);
+    gives_text(&image, two, Unsigned(10), b"index 0", visits(1, 1));
+    gives_text(&image, two, Float(10.0), b"index 1", visits(1, 1));
+    gives_text(&image, two, Float(20.0), b"index 2", visits(1, 1));
+    gives_text(&image, two, Float(f64::NAN), b"index 2", visits(1, 1));
+    gives_text(&image, odd, Unsigned(99), b"index 0", visits(1, 1));
+    gives_text(&image, odd, Float(f64::NAN), b"index 0", visits(1, 1));
+    gives_text(&image, odd_nil, Float(f64::NAN), b"", visits(1, 1));
+}
+
+#[test]
+fn range_to_value() {
+    let mut image = Image::new();
+    let hitch = image.block(6, &[], &[0.0, 10.0, 1.0, 10.0, 20.0, 2.0, 9.0]);
+    answers(&image, hitch, Unsigned(10), Answer::Number(1.0));
+    answers(&image, hitch, Float(10.0), Answer::Number(2.0));
+    answers(&image, hitch, Float(20.0), Answer::Number(9.0));
+}
+
+#[test]
+fn a_range_is_there_by_the_block_length() {
+    for (length, range) in [(95, None), (96, Some(PhysicalRange { min: 0.5, max: 8.0 }))] {
+        let mut image = Image::new();
+        let address = image.block(1, &[], &[0.5, 8.0, 2.0, 3.0]);
+        image.bytes[address as usize + 8] = length;
+        image.bytes[address as usize + 62] = 2; // two values
+        let values: Vec<f64> = ConversionBlock::cc_val(&image.bytes, address).unwrap().collect();
+        assert_eq!(ConversionBlock::parse(&image.bytes, address).unwrap().cc_phy_range, range);
+        assert_eq!(values, if range.is_some() { [2.0, 3.0] } else { [0.5, 8.0] });
+    }
+}
+
+#[test]
+fn bit_groups() {
+    let mut image = Image::new();
+    let (name, low, pto) = (image.text(b"Gear"), image.text(b"Low"), image.text(b"PTO"));
+    let gear = image.named(7, name, &[low], &[2f64.to_bits()]);
+    let groups = image.named(11, 0, &[gear, pto], &[3, 12]);
+    gives_text(&image, groups, Unsigned(6), b"Gear = Low|PTO", visits(2, 2));
+    gives_text(&image, groups, Unsigned(0), b"PTO", visits(2, 2));
+    assert!(apply_in(&image, groups, LIMIT, Unsigned(6), 14).0.is_ok());
+    assert_eq!(apply_in(&image, groups, LIMIT, Unsigned(6), 13).0, Err(Refusal::Room(Some(visits(2, 2)))));
+    assert_eq!(apply_in(&image, groups, LIMIT, Unsigned(6), 0).0, Err(Refusal::Room(Some(visits(2, 2)))));
+}
+
+#[test]
+fn two_links_to_one_leaf() {
+    let mut image = Image::new();
+    let leaf = image.block(1, &[], &[]);
+    let root = image.block(8, &[leaf, leaf], &[]);
+    assert_eq!(check(&image.bytes, root, 3), Ok(3));
+    is_unsound(&image, root, 2, Refusal::Limit(leaf));
+}
+
+#[test]
+fn chains_and_rows() {
+    let mut image = Image::new();
+    let (root, _) = image.row(21, 1);
+    assert_eq!(check(&image.bytes, root, LIMIT), Ok(21));
+    let (root, last) = image.row(22, 1);
+    is_unsound(&image, root, LIMIT, Refusal::Deep(last));
+    let (root, last) = image.row(12, 2);
+    assert_eq!(check(&image.bytes, root, 4095), Ok(4095));
+    is_unsound(&image, root, 4094, Refusal::Limit(last));
+}
+
+#[test]
+fn outside_and_not_a_conversion() {
+    let mut image = Image::new();
+    let text = image.text(b"no conversion");
+    let end = image.bytes.len() as u64;
+    is_unsound(&image, text, LIMIT, Refusal::NotConversion(text));
+    is_unsound(&image, end - 23, LIMIT, Refusal::Outside(end - 23));
+    is_unsound(&image, u64::MAX, 0, Refusal::Outside(u64::MAX));
+    is_unsound(&Image { bytes: Vec::new() }, 0, LIMIT, Refusal::Outside(0));
+    assert_eq!(ConversionBlock::parse(&image.bytes, end), Err(Refusal::Outside(end)));
+    assert_eq!(ConversionBlock::parse(&image.bytes, text), Err(Refusal::NotConversion(text)));
+}
+
+#[test]
+fn short_and_loop() {
+    let mut image = Image::new();
+    let own = image.bytes.len() as u64;
+    image.block(7, &[own], &[]);
+    let cut = image.block(1, &[], &[0.0, 1.0]);
+    image.bytes.pop();
+    is_unsound(&image, own, 1, Refusal::Loop(own));
+    is_unsound(&image, cut, LIMIT, Refusal::Short(cut));
+    is_unsound(&image, cut, 0, Refusal::Limit(cut));
+    assert_eq!(ConversionBlock::parse(&image.bytes, cut), Err(Refusal::Short(cut)));
+    assert_eq!(ConversionBlock::cc_ref(&image.bytes, cut).err(), Some(Refusal::Short(cut)));
+    assert_eq!(ConversionBlock::cc_val(&image.bytes, cut).err(), Some(Refusal::Short(cut)));
+}
+
+#[test]
+fn a_formula_keeps_its_visits() {
+    let mut image = Image::new();
+    let formula = image.block(3, &[], &[]);
+    let groups = image.named(11, 0, &[formula, formula], &[3, 12]);
+    assert_eq!(apply_in(&image, formula, LIMIT, Float(5.0), 0).0, Err(Refusal::Formula(visits(1, 1))));
+    assert_eq!(apply_in(&image, groups, LIMIT, Unsigned(6), 64).0, Err(Refusal::Formula(visits(3, 2))));
+    answers(&image, formula, Text(b"no signal"), Answer::Unchanged);
+}
+
+#[test]
+fn texts() {
+    let mut image = Image::new();
+    let keys = [image.text(b"off"), image.text(b"on"), image.text(b"")];
+    let lamp = image.block(9, &keys[..2], &[0.0, 1.0, -1.0]);
+    let no_value = image.block(9, &keys[..2], &[0.0]);
+    let fault = image.block(10, &keys, &[]);
+    answers(&image, lamp, Text(b"on"), Answer::Number(1.0));
+    answers(&image, lamp, Text(b"blink"), Answer::Number(-1.0));
+    answers(&image, no_value, Text(b"on"), Answer::Unknown);
+    answers(&image, lamp, Other, Answer::Unchanged);
+    gives_text(&image, fault, Text(b"off"), b"on", visits(1, 1));
+    gives_text(&image, fault, Text(b""), b"", visits(1, 1));
+}
+
+#[test]
+fn a_translation_is_a_part_of_the_image_or_the_question() {
+    let mut image = Image::new();
+    let texts = [image.text(b"E1"), image.text(b"oil pressure low"), image.text(b"")];
+    let fault = image.block(10, &texts, &[]);
+    let (bytes, question) = (&image.bytes[..], b"E1".as_slice());
+    let low = texts[1] as usize + 24;
+    assert!(core::ptr::eq(translate(bytes, fault, LIMIT, question), &bytes[low..low + 16]));
+    assert!(core::ptr::eq(translate(bytes, fault, 0, question), question));
+    assert!(core::ptr::eq(translate(bytes, texts[0], LIMIT, question), question));
+    let empty = texts[2] as usize + 24;
+    assert!(core::ptr::eq(translate(bytes, fault, LIMIT, b"E2"), &bytes[empty..empty]));
+    assert_eq!(translate(&[], 0, 0, &[]), b"");
+}
+
+/// A block with every field of its own.
+fn all_fields() -> ConversionBlock {
+    ConversionBlock {
+        block_len: 120,
+        links_nr: 7,
+        cc_tx_name: Some(1),
+        cc_md_unit: Some(u64::MAX),
+        cc_md_comment: Some(3),
+        cc_cc_inverse: Some(0x0102030405060708),
+        cc_type: ConversionType::Unknown(200),
+        cc_precision: 9,
+        cc_flags: 0x4142,
+        cc_ref_count: 0x5152,
+        cc_val_count: 2,
+        cc_phy_range: Some(PhysicalRange { min: -2.5, max: f64::INFINITY }),
+    }
+}
+
+#[test]
+fn what_was_written_is_parsed() {
+    let (refs, values) = ([5, 0, u64::MAX], [-0.0, 1.5]);
+    let mut out = vec![FILL; 130];
+    assert_eq!(all_fields().write(&refs, &values, &mut out), Ok(120));
+    assert_eq!(out[120..], [FILL; 10]);
+    assert_eq!(ConversionBlock::parse(&out, 0), Ok(all_fields()));
+    assert!(ConversionBlock::cc_ref(&out, 0).unwrap().eq(refs));
+    assert!(ConversionBlock::cc_val(&out, 0).unwrap().map(f64::to_bits).eq(values.map(f64::to_bits)));
+}
+
+#[test]
+fn every_nan_keeps_its_bits() {
+    let words = [0x7ff0000000000001, 0xfff8000000000123, 0x7fffffffffffffff, 3];
+    let nan = |word| f64::from_bits(word);
+    let block = ConversionBlock { cc_phy_range: Some(PhysicalRange { min: nan(words[0]), max: nan(words[1]) }), ..all_fields() };
+    let (mut first, mut second) = ([0; 112], [0; 112]);
+    assert_eq!(block.write(&[], &words.map(f64::from_bits), &mut first), Ok(112));
+    assert_eq!(first[64..80], [words[0].to_le_bytes(), words[1].to_le_bytes()].concat());
+    assert!(ConversionBlock::cc_val(&first, 0).unwrap().map(f64::to_bits).eq(words));
+    let values: Vec<f64> = ConversionBlock::cc_val(&first, 0).unwrap().collect();
+    assert_eq!(ConversionBlock::parse(&first, 0).unwrap().write(&[], &values, &mut second), Ok(112));
+    assert_eq!(first, second);
+}
+
+#[test]
+fn writing_refuses_room_and_count() {
+    let mut out = vec![FILL; 120];
+    assert_eq!(all_fields().write(&[5, 0, 6], &[1.0, 2.0], &mut out[..119]), Err(Refusal::Room(None)));
+    assert_eq!(all_fields().write(&[], &vec![0.0; 65536], &mut out), Err(Refusal::Count));
+    assert_eq!(all_fields().write_words(&[], &vec![0; 65535], &mut out), Err(Refusal::Room(None)));
+    assert_eq!(out, [FILL; 120]);
+}
+
+#[test]
+fn refusals_have_number_name_address_and_visits() {
+    let seen = visits(3, 2);
+    let all = [
+        (Refusal::Outside(9), "refused 1 Outside at 9", None),
+        (Refusal::NotConversion(9), "refused 2 NotConversion at 9", None),
+        (Refusal::Limit(9), "refused 3 Limit at 9", None),
+        (Refusal::Short(9), "refused 4 Short at 9", None),
+        (Refusal::Deep(9), "refused 5 Deep at 9", None),
+        (Refusal::Loop(0), "refused 6 Loop at 0", None),
+        (Refusal::Formula(seen), "refused 7 Formula", Some(seen)),
+        (Refusal::Room(Some(seen)), "refused 8 Room", Some(seen)),
+        (Refusal::Count, "refused 9 Count", None),
+    ];
+    for (number, (refusal, shown, visits)) in (1..).zip(all) {
+        assert_eq!((refusal.number(), refusal.to_string().as_str(), refusal.visits()), (number, shown, visits));
+        assert_eq!(refusal.address().is_some(), number <= 6);
+    }
+}
