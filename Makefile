@@ -1,10 +1,20 @@
-# `make test` is the whole test command; `make demo` shows the main job on the sample image; `make face` tries the C header and the Rust crate.
+# `make test` is the whole test command; `make demo` shows the main job on the sample image; `make face` tries the C header and the Rust crate;
+# `make compare` asks the crate mf4-rs as well, and `make bench` takes the speed beside it.
 KIT := $(shell cat KIT)
 
-.PHONY: test demo face kit
+# The comparison: N cases from SEED on, the folder of the crate's source, and the folder of the packages that the source needs.
+N ?= 8000000
+SEED ?= 1
+MF4_SOURCE ?= ../shared/docs/src/src
+CARGO_REGISTRY ?= /usr/share/cargo/registry
+export MF4_SOURCE CARGO_REGISTRY
 
-# The gate comes last. It removes target/, and the archive of the faces with it.
+.PHONY: test demo face compare sharp record bench kit
+
+# The comparison runs where its source and packages are at hand, and is otherwise named in one line. The gate comes last; it removes target/, and
+# the archive of the faces with it.
 test: kit face
+	@compare/run --if-possible run $(N) $(SEED)
 	@rt fmt --check
 	@rt ci
 
@@ -19,6 +29,21 @@ face: kit
 	@mkdir -p target; echo "Proving what C and Rust link: some minutes the first time."
 	@rt staticlib gateway > target/face.log 2>&1 || { tail -n 20 target/face.log; exit 1; }
 	@sh face/test.sh
+
+compare: kit
+	@compare/run run $(N) $(SEED)
+
+# Is the comparison sharp? Each of the wrong builds in compare/WRONG-BUILDS.md has to be caught.
+sharp: kit
+	@compare/run sharp $(SEED)
+
+# Makes the recorded answers of the program replay anew.
+record: kit
+	@compare/run record crates/replay 150 $(SEED)
+
+# The speed beside the crate: docs/BENCHMARKS.md says how it is taken.
+bench: kit
+	@compare/run bench
 
 # Says so where another kit is found than the one that the project was proved with.
 kit:

@@ -1,0 +1,36 @@
+// The proved exports that are timed.
+
+#[repr(C)]
+#[derive(Clone, Copy)]
+pub struct Applied {
+    pub refusal: u32,
+    pub kind: u32,
+    pub number: f64,
+    pub length: u64,
+    pub address: u64,
+    pub checked: u32,
+    pub applied: u32,
+}
+
+#[repr(C)]
+pub struct Checked {
+    pub refusal: u32,
+    pub visits: u32,
+    pub address: u64,
+}
+
+extern "C" {
+    pub fn mdf_check(image: *const u8, image_len: usize, address: u64, limit: u32) -> Checked;
+    pub fn mdf_apply_unsigned(image: *const u8, image_len: usize, address: u64, limit: u32, value: u64, out: *mut u8, out_len: usize) -> Applied;
+    pub fn mdf_apply_float(image: *const u8, image_len: usize, address: u64, limit: u32, value: f64, out: *mut u8, out_len: usize) -> Applied;
+    pub fn mdf_apply_text(
+        image: *const u8,
+        image_len: usize,
+        address: u64,
+        limit: u32,
+        text: *const u8,
+        text_len: usize,
+        out: *mut u8,
+        out_len: usize,
+    ) -> Applied;
+}

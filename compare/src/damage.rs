@@ -1,0 +1,96 @@
+// Damages an image: cut off, looping, deep, with huge counts, with broken ids, texts and links; and addresses that hold no block.
+use crate::plan::Laid;
+use crate::random::Random;
+
+#[rustfmt::skip]
+const ODD_WORDS: &[u64] = &[
+    0, 1, 2, 3, 4, 5, 6, 23, 24, 25, 65_536, 1 << 32, 1 << 60, (1 << 61) - 1, 1 << 61, (1 << 61) + 4, (1 << 61) + 5, (1 << 61) + 6,
+    1 << 62, 1 << 63, u64::MAX - 23, u64::MAX,
+];
+
+fn put(image: &mut [u8], at: usize, bytes: &[u8]) {
+    if let Some(end) = at.checked_add(bytes.len()).filter(|&e| e <= image.len()) {
+        image[at..end].copy_from_slice(bytes);
+    }
+}
+
+fn word(image: &[u8], at: usize) -> u64 {
+    image.get(at..at + 8).map_or(0, |b| u64::from_le_bytes(b.try_into().unwrap()))
+}
+
+/// Where the fields behind the links stand, as the header says.
+fn fields_at(image: &[u8], block: usize) -> usize {
+    let links = word(image, block + 16).clamp(4, 100_000) as usize;
+    block + 24 + 8 * links
+}
+
+/// One thing done to a block or to a part of the image.
+pub fn damage(laid: &mut Laid, root: u64, r: &mut Random) {
+    if laid.image.is_empty() {
+        return;
+    }
+    let block = r.pick(&laid.places) as usize;
+    let image = &mut laid.image;
+    let fields = fields_at(image, block);
+    match r.below(14) {
+        0 => cut(image, &laid.places, r),
+        1 => put(image, block + 16, &r.pick(ODD_WORDS).to_le_bytes()),
+        2 => put(image, block + 8, &r.pick(ODD_WORDS).to_le_bytes()),
+        3 => {
+            let length = word(image, block + 8).wrapping_add(r.pick(&[1, 8, 16, u64::MAX, u64::MAX - 7]));
+            put(image, block + 8, &length.to_le_bytes());
+        }
+        4 | 5 => relink(image, &laid.places, block, root, r),
+        6 => put(image, fields, &[r.pick(&[3, 3, 7, 8, 10, 11, 12])]),
+        7 => {
+            let count = r.pick(&[0, 1, 2, 3, 4, 255, 32_768, 65_535]) as u16;
+            put(image, fields + 6, &count.to_le_bytes());
+        }
+        8 => put(image, block, &r.pick(&[*b"##CC", *b"##TX", *b"##MD", *b"\xff#TX", *b"##CB"])),
+        9 => put(image, block + 24, &[0, b'x', 0xff, 0xc3][..1 + r.below(4)]),
+        10 => put(image, block + 4 + r.below(4), &[1]),
+        _ => {
+            let at = r.below(image.len());
+            image[at] = if r.chance(50) { image[at] ^ (1 << r.below(8)) } else { r.next() as u8 };
+        }
+    }
+}
+
+/// Ends the image: anywhere, or close to where a block ends or starts.
+fn cut(image: &mut Vec<u8>, places: &[u64], r: &mut Random) {
+    let end = match r.below(3) {
+        0 => r.below(image.len() + 1),
+        1 => image.len() - r.below(40.min(image.len())),
+        _ => (r.pick(places) as usize + r.below(100)).min(image.len()),
+    };
+    image.truncate(end);
+}
+
+/// Sets one link: to another block, to the block itself, or to no block at all.
+fn relink(image: &mut [u8], places: &[u64], block: usize, root: u64, r: &mut Random) {
+    let links = word(image, block + 16).clamp(4, 1000) as usize;
+    let slot = if r.chance(80) && links > 4 { 4 + r.below(links - 4) } else { r.below(links) };
+    let end = image.len() as u64;
+    let link = match r.below(8) {
+        0..=2 => r.pick(places),
+        3 => root,
+        4 => block as u64,
+        5 => end.wrapping_sub(r.below(30) as u64),
+        6 => r.pick(ODD_WORDS),
+        _ => r.pick(places).wrapping_add(r.pick(&[1, 4, 8, 24])),
+    };
+    put(image, block + 24 + 8 * slot, &link.to_le_bytes());
+}
+
+/// An address to ask for that is perhaps no block's.
+pub fn address(laid: &Laid, root: u64, r: &mut Random) -> u64 {
+    let end = laid.image.len() as u64;
+    match r.below(8) {
+        0..=2 => r.pick(&laid.places),
+        3 => end.wrapping_sub(r.below(30) as u64),
+        4 => u64::MAX - r.below(30) as u64,
+        5 => r.pick(ODD_WORDS),
+        6 => root.wrapping_add(1),
+        _ => r.below(laid.image.len() + 1) as u64,
+    }
+}

@@ -1,0 +1,125 @@
+// A scene: one image with an address and a limit, the values that are asked there, and the fields of one block to write.
+// Seed and number give the same scene on every machine.
+use crate::damage;
+use crate::grow::Grower;
+use crate::lent::LARGEST_IMAGE;
+use crate::numbers;
+use crate::random::Random;
+use crate::second::RIGHT;
+use crate::side::{Block, Side, Value};
+
+/// So many values are asked in each scene.
+pub const ASKS: usize = 8;
+
+/// A limit that no grown tree reaches.
+const WIDE_LIMIT: u32 = 20_000;
+
+#[derive(Clone)]
+pub struct Ask {
+    pub value: Value,
+    pub text: Vec<u8>,
+    pub room: usize,
+}
+
+#[derive(Clone)]
+pub struct Fields {
+    pub block: Block,
+    pub refs: Vec<u64>,
+    pub words: Vec<u64>,
+    pub room: usize,
+}
+
+#[derive(Clone)]
+pub struct Scene {
+    pub image: Vec<u8>,
+    pub address: u64,
+    pub limit: u32,
+    pub asks: Vec<Ask>,
+    pub fields: Fields,
+}
+
+impl Scene {
+    pub fn new(seed: u64, number: u64) -> Scene {
+        let mut r = Random::new(seed, number);
+        let grown = Grower::grow(&mut r);
+        let mut laid = grown.plan.lay(&mut r);
+        let mut address = laid.places[grown.plan.root];
+        if r.chance(30) {
+            for _ in 0..1 + r.below(2) {
+                damage::damage(&mut laid, address, &mut r);
+            }
+            if r.chance(15) {
+                address = damage::address(&laid, address, &mut r);
+            }
+        }
+        assert!(laid.image.len() <= LARGEST_IMAGE);
+        let limit = limit(&laid.image, address, &mut r);
+        let root = RIGHT.opened(&laid.image, address);
+        let wants_text = root.is_some_and(|b| b.kind == 9 || b.kind == 10);
+        let mut scene = Scene { image: laid.image, address, limit, asks: Vec::new(), fields: fields(&mut r) };
+        for _ in 0..ASKS {
+            let value = numbers::value(&mut r, &grown.palette, wants_text);
+            let text = if value == Value::Text { numbers::question(&mut r, &grown.texts) } else { Vec::new() };
+            let room = scene.room(value, &text, &mut r);
+            scene.asks.push(Ask { value, text, room });
+        }
+        scene
+    }
+
+    /// Room for the answer: mostly more than enough, sometimes just enough, or one byte less.
+    fn room(&self, value: Value, text: &[u8], r: &mut Random) -> usize {
+        if r.chance(70) {
+            return 600;
+        }
+        let mut out = vec![0; 600];
+        let length = RIGHT.apply(&self.image, self.address, self.limit, value, text, &mut out).length as usize;
+        r.pick(&[length, length, length.saturating_sub(1), length.saturating_sub(1), length + 1, 0, length / 2])
+    }
+}
+
+/// Mostly more than the walk takes; sometimes just so much, or too little.
+fn limit(image: &[u8], address: u64, r: &mut Random) -> u32 {
+    let checked = RIGHT.check(image, address, WIDE_LIMIT);
+    let n = if checked.refusal == 0 { checked.visits } else { 3 };
+    match r.below(100) {
+        0..=59 => WIDE_LIMIT,
+        60..=69 if checked.refusal == 0 => u32::MAX,
+        60..=84 => n,
+        85..=89 => n + 1,
+        90..=94 => n - 1,
+        95..=96 => r.below(n as usize + 1) as u32,
+        _ => r.pick(&[0, 1, 2]),
+    }
+}
+
+/// Any fields for the writer. The stored value count is mostly the number of values, as the crate needs it.
+fn fields(r: &mut Random) -> Fields {
+    let many = r.below(1000) == 0;
+    let count = if many { r.pick(&[65_534, 65_535, 65_536, 65_537]) } else { r.below(8) };
+    let words: Vec<u64> = (0..count).map(|_| if many { 7 } else { numbers::word(r) }).collect();
+    let refs: Vec<u64> = (0..r.below(6)).map(|_| r.next() >> r.below(64)).collect();
+    let ranged = r.chance(50);
+    let (min_word, max_word) = if ranged { (numbers::word(r), numbers::word(r)) } else { (0, 0) };
+    let size = 64 + 8 * (refs.len() + words.len()) + 16 * ranged as usize;
+    let room = if r.chance(60) { size + r.below(9) } else { r.pick(&[size, size - 1, 0, 24, size / 2]) };
+    let link = |r: &mut Random| if r.chance(40) { 0 } else { r.next() >> r.below(64) };
+    let block = Block {
+        length: r.next() >> r.below(64),
+        links: r.below(12) as u64,
+        name: link(r),
+        unit: link(r),
+        comment: link(r),
+        inverse: link(r),
+        range_min: f64::from_bits(min_word),
+        range_max: f64::from_bits(max_word),
+        min_word,
+        max_word,
+        flags: r.next() as u16,
+        ref_count: r.next() as u16,
+        val_count: if r.chance(85) { words.len() as u16 } else { r.next() as u16 },
+        kind: if r.chance(70) { r.below(13) as u8 } else { r.next() as u8 },
+        precision: r.next() as u8,
+        ranged,
+    };
+    Fields { block, refs, words, room }
+}

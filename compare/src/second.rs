@@ -1,0 +1,222 @@
+// A second reading of document 01, plain and slow: check, apply, parse, write and the type 10 entry. It judges the proved build where the
+// crate has no say, and with one rule broken (`wrong`) it is a wrong build that the comparison has to catch.
+mod apply;
+mod block;
+mod rules;
+
+use crate::side::{Applied, Block, Checked, Parsed, Shown, Side, Value, Written};
+use crate::wrong::Wrong;
+use apply::{Application, Says};
+pub use block::Found;
+
+pub struct Second {
+    pub wrong: Wrong,
+}
+
+/// Document 01 with no rule broken.
+pub const RIGHT: Second = Second { wrong: Wrong::Nothing };
+
+/// A refusal's number and its address.
+type Refused = (u32, u64);
+
+/// What a walk carries from block to block.
+struct Walk<'a> {
+    image: &'a [u8],
+    limit: u64,
+    visits: u64,
+    path: Vec<u64>,
+    seen: Vec<u64>,
+}
+
+impl Second {
+    fn is(&self, wrong: Wrong) -> bool {
+        self.wrong == wrong
+    }
+
+    /// The ##CC block at an address, if one stands there whole.
+    pub fn opened(&self, image: &[u8], address: u64) -> Option<Found> {
+        block::id_at(image, address).filter(|&id| id == b"##CC").and_then(|_| self.read(image, address))
+    }
+
+    /// Root first: refusals 1, 2, 3, 4; then its references.
+    fn accepted(&self, image: &[u8], address: u64, limit: u32) -> Result<u32, Refused> {
+        let more = if self.is(Wrong::RootHeaderOneByteMore) { 1 } else { 0 };
+        if address as u128 + 24 + more > image.len() as u128 {
+            return Err((1, address));
+        }
+        if block::id_at(image, address) != Some(b"##CC") {
+            return Err((2, address));
+        }
+        if self.is(Wrong::OnlyRefuses) {
+            return Err((3, address));
+        }
+        let limit = limit as u64 - (self.is(Wrong::LimitOneLess) && limit > 0) as u64;
+        let mut walk = Walk { image, limit, visits: 0, path: Vec::new(), seen: Vec::new() };
+        self.visit(&mut walk, address, 0)?;
+        Ok(walk.visits as u32)
+    }
+
+    /// One visit of a ##CC block: refusals 3, 4, 5, then its references.
+    fn visit(&self, walk: &mut Walk, address: u64, depth: u32) -> Result<(), Refused> {
+        let deepest = match self.wrong {
+            Wrong::DepthOneLess => 19,
+            Wrong::DepthOneMore => 21,
+            _ => 20,
+        };
+        let found = self.read(walk.image, address);
+        if self.is(Wrong::ShortBeforeLimit) && found.is_none() {
+            return Err((4, address));
+        }
+        if walk.visits >= walk.limit {
+            return Err((3, address));
+        }
+        if !(self.is(Wrong::RepeatsCountOnce) && walk.seen.contains(&address)) {
+            walk.visits += 1;
+        }
+        if self.is(Wrong::DeepBeforeShort) && depth > deepest {
+            return Err((5, address));
+        }
+        let found = found.ok_or((4, address))?;
+        if depth > deepest {
+            return Err((5, address));
+        }
+        if matches!(self.wrong, Wrong::RepeatsCountOnce | Wrong::OneVisitedSet) {
+            walk.seen.push(address);
+        }
+        let walked = !self.is(Wrong::OnlyTextTypesWalked) || [7, 8, 11].contains(&found.kind);
+        walk.path.push(address);
+        for &link in found.refs.iter().filter(|_| walked) {
+            self.follow_link(walk, link, address, depth)?;
+        }
+        walk.path.pop();
+        Ok(())
+    }
+
+    /// The five steps of one reference.
+    fn follow_link(&self, walk: &mut Walk, link: u64, holder: u64, depth: u32) -> Result<(), Refused> {
+        if link == 0 && !self.is(Wrong::NilIsALink) {
+            return Ok(());
+        }
+        let root_excused = self.is(Wrong::RootNotOnPath) as usize;
+        let known = if self.is(Wrong::OneVisitedSet) { &walk.seen[..] } else { &walk.path[root_excused..] };
+        if known.contains(&link) {
+            let full = self.is(Wrong::LoopAfterLimit) && walk.visits >= walk.limit;
+            let named = if self.is(Wrong::LoopNamesTheBlock) { holder } else { link };
+            return Err((if full { 3 } else { 6 }, named));
+        }
+        match block::id_at(walk.image, link) {
+            Some(b"##CC") => self.visit(walk, link, depth + 1),
+            None if self.is(Wrong::OutsideLinkRefused) => Err((1, link)),
+            _ => Ok(()),
+        }
+    }
+
+    /// What is answered after an accepted check, and what the output holds then.
+    fn settle(&self, checked: u32, run: Application, says: Result<Says, apply::Formula>, out: &mut [u8]) -> Applied {
+        let mut answer = Applied { refusal: 0, kind: 0, number: 0.0, length: 0, address: 0, checked, applied: run.begun };
+        if self.is(Wrong::AppliedIsChecked) {
+            answer.applied = checked;
+        }
+        match says {
+            Err(_) if self.is(Wrong::RoomBeforeFormula) && run.longest > out.len() => answer.refusal = 8,
+            Err(_) => answer.refusal = 7,
+            Ok(Says::Number(x)) => (answer.kind, answer.number) = (1, x),
+            Ok(Says::Text(t)) => self.put_text(&t, out, &mut answer),
+            Ok(Says::Unchanged) => answer.kind = 3,
+            Ok(Says::Unknown) => answer.kind = 4,
+        }
+        answer
+    }
+
+    fn put_text(&self, text: &[u8], out: &mut [u8], answer: &mut Applied) {
+        let fits = text.len() + self.is(Wrong::RoomOneByteMore) as usize <= out.len();
+        let written = text.len().min(out.len());
+        if fits || self.is(Wrong::TextBeforeLength) {
+            out[..written].copy_from_slice(&text[..written]);
+        }
+        if !fits {
+            answer.refusal = 8;
+            if self.is(Wrong::VisitsLostAtRoom) {
+                (answer.checked, answer.applied) = (0, 0);
+            }
+            return;
+        }
+        if self.is(Wrong::ZeroBehindText) && text.len() < out.len() {
+            out[text.len()] = 0;
+        }
+        (answer.kind, answer.length) = (2, text.len() as u64);
+    }
+}
+
+impl Side for Second {
+    fn check(&self, image: &[u8], address: u64, limit: u32) -> Checked {
+        match self.accepted(image, address, limit) {
+            Ok(visits) => Checked { refusal: 0, visits, address: 0 },
+            Err((refusal, address)) => Checked { refusal, visits: 0, address },
+        }
+    }
+
+    fn apply(&self, image: &[u8], address: u64, limit: u32, value: Value, text: &[u8], out: &mut [u8]) -> Applied {
+        match self.accepted(image, address, limit) {
+            Err((refusal, address)) => Applied { refusal, kind: 0, number: 0.0, length: 0, address, checked: 0, applied: 0 },
+            Ok(checked) => {
+                let mut run = Application { second: self, image, text, begun: 0, longest: 0 };
+                let says = run.apply(address, value);
+                self.settle(checked, run, says, out)
+            }
+        }
+    }
+
+    fn translate(&self, image: &[u8], address: u64, limit: u32, question: &[u8]) -> Shown {
+        let whole_question = Shown { from_image: 0, start: 0, length: question.len() as u64 };
+        let checked = self.accepted(image, address, limit);
+        if checked.is_err() && !(self.is(Wrong::ShownUnchecked) && block::id_at(image, address) == Some(b"##CC")) {
+            return whole_question;
+        }
+        let Some(root) = self.read(image, address) else { return whole_question };
+        if root.kind != 10 && !self.is(Wrong::ShownForAnyType) {
+            return whole_question;
+        }
+        match self.chosen_text(image, &root.refs, question) {
+            Some((from, to)) if from == to && self.is(Wrong::EmptyTextNotShown) => whole_question,
+            Some((from, _)) if self.is(Wrong::ShownWithZeros) => {
+                let end = block::text_block_end(image, from);
+                Shown { from_image: 1, start: from as u64, length: (end - from) as u64 }
+            }
+            Some((from, to)) => Shown { from_image: 1, start: from as u64, length: (to - from) as u64 },
+            None => whole_question,
+        }
+    }
+
+    fn parse(&self, image: &[u8], address: u64) -> Parsed {
+        let refused = |refusal| Parsed { refusal, address, block: Block::default() };
+        match block::id_at(image, address) {
+            None => refused(1),
+            Some(b"##CC") => match self.read(image, address) {
+                Some(found) => Parsed { refusal: 0, address: 0, block: found.record() },
+                None => refused(4),
+            },
+            Some(_) => refused(2),
+        }
+    }
+
+    fn write(&self, block: Block, refs: &[u64], words: &[u64], out: &mut [u8]) -> Written {
+        let bytes = self.bytes_of(&block, refs, words);
+        let most = if self.is(Wrong::WriterCountOneLess) { 65_534 } else { 65_535 };
+        let count = if words.len() > most { 9 } else { 0 };
+        let room = if bytes.len() > out.len() { 8 } else { 0 };
+        if self.is(Wrong::WriterHeaderFirst) && out.len() >= 24 {
+            out[..24].copy_from_slice(&bytes[..24]);
+        }
+        let refusal = match (count, room) {
+            (9, 8) if self.is(Wrong::WriterRoomFirst) => 8,
+            (9, _) => 9,
+            (_, room) => room,
+        };
+        if refusal != 0 {
+            return Written { refusal, length: 0 };
+        }
+        out[..bytes.len()].copy_from_slice(&bytes);
+        Written { refusal: 0, length: bytes.len() as u64 }
+    }
+}

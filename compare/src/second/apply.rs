@@ -1,0 +1,267 @@
+// Applying a tree of blocks to a value (document 01, "Applying"): types 7 to 11, which follow references, and the choice of a rule.
+use super::block::{self, Found, ONE_NAN};
+use super::Second;
+use crate::side::Value;
+use crate::wrong::Wrong;
+
+/// Applying has reached a formula with a number.
+pub struct Formula;
+
+pub enum Says {
+    Number(f64),
+    Text(Vec<u8>),
+    Unchanged,
+    Unknown,
+}
+
+/// One application: the blocks begun so far, and the longest text that was being made.
+pub struct Application<'a> {
+    pub second: &'a Second,
+    pub image: &'a [u8],
+    pub text: &'a [u8],
+    pub begun: u32,
+    pub longest: usize,
+}
+
+/// Where a reference leads.
+enum Lead {
+    Nil,
+    Nowhere,
+    Text(usize, usize),
+    Conversion(u64),
+}
+
+impl Second {
+    /// Text to text: the text that is chosen for a question.
+    pub fn chosen_text(&self, image: &[u8], refs: &[u64], question: &[u8]) -> Option<(usize, usize)> {
+        let pairs = if self.is(Wrong::HalfTheReferences) { refs.len() / 2 } else { refs.len().saturating_sub(1) / 2 };
+        let default_at = if self.is(Wrong::DefaultTextLast) { refs.len().saturating_sub(1) } else { 2 * pairs };
+        let default = refs.get(default_at).and_then(|&link| self.text_of(image, link));
+        for pair in refs[..2 * pairs].chunks_exact(2) {
+            if self.key_is(image, pair[0], question) {
+                let output = self.text_of(image, pair[1]);
+                return if self.is(Wrong::KeyWithoutOutputFalls) { output.or(default) } else { output };
+            }
+        }
+        default
+    }
+
+    fn key_is(&self, image: &[u8], link: u64, question: &[u8]) -> bool {
+        match self.text_of(image, link) {
+            Some((from, to)) if self.is(Wrong::KeyPrefix) => image[from..to].starts_with(question),
+            Some((from, to)) => &image[from..to] == question,
+            None => false,
+        }
+    }
+
+    fn lead(&self, image: &[u8], link: u64) -> Lead {
+        if link == 0 {
+            return Lead::Nil;
+        }
+        match (self.text_of(image, link), block::id_at(image, link)) {
+            (Some((from, to)), _) => Lead::Text(from, to),
+            (None, Some(b"##CC")) => Lead::Conversion(link),
+            _ => Lead::Nowhere,
+        }
+    }
+
+    fn mask(&self, word: u64) -> u64 {
+        match self.wrong {
+            Wrong::MaskAsNumber => f64::from_bits(word) as u64,
+            Wrong::MaskLosesNan if block::spells_nan(word) => ONE_NAN,
+            _ => word,
+        }
+    }
+
+    /// The 64 bits that bit groups mask; none for a value that they leave unchanged.
+    fn group_bits(&self, value: Value) -> Option<u64> {
+        match value {
+            Value::Unsigned(n) => Some(n),
+            Value::Signed(_) if self.is(Wrong::SignedGroupsUnchanged) => None,
+            Value::Signed(n) => Some(n as u64),
+            Value::Float(x) if self.is(Wrong::FloatGroups) => Some(x as u64),
+            _ => None,
+        }
+    }
+}
+
+impl Application<'_> {
+    fn is(&self, wrong: Wrong) -> bool {
+        self.second.is(wrong)
+    }
+
+    /// The block at an address that the check has accepted, applied to a value.
+    pub fn apply(&mut self, address: u64, value: Value) -> Result<Says, Formula> {
+        self.begun += 1;
+        let Some(found) = self.second.read(self.image, address) else { return Ok(Says::Unchanged) };
+        match (found.kind, value) {
+            (0 | 12.., _) if found.kind > 0 && self.is(Wrong::UnknownTypeUnknown) => Ok(Says::Unknown),
+            (0 | 12.., _) => Ok(Says::Unchanged),
+            (_, Value::Other(_)) if self.is(Wrong::OtherUnknown) => Ok(Says::Unknown),
+            (_, Value::Other(_)) => Ok(Says::Unchanged),
+            (3, Value::Text) if self.is(Wrong::FormulaTakesText) => Err(Formula),
+            (1..=8, Value::Text) if self.is(Wrong::TextToNumberRules) => Ok(Says::Unknown),
+            (1..=8, Value::Text) => Ok(Says::Unchanged),
+            (9, Value::Text) => Ok(self.text_to_value(&found)),
+            (10, Value::Text) => Ok(self.text_to_text(&found)),
+            (9 | 10, _) if self.is(Wrong::NumberToTextTypes) => Ok(Says::Unknown),
+            (9 | 10, _) => Ok(Says::Unchanged),
+            (11, _) => self.bit_groups(&found, value),
+            (3, _) => {
+                self.begun -= self.is(Wrong::FormulaNotCounted) as u32;
+                Err(Formula)
+            }
+            _ => self.of_number(&found, value),
+        }
+    }
+
+    /// Types 1, 2 and 4 to 8, of a number.
+    fn of_number(&mut self, found: &Found, value: Value) -> Result<Says, Formula> {
+        let Some(x) = self.second.number(value) else { return Ok(Says::Unchanged) };
+        let integer = !matches!(value, Value::Float(_));
+        let v: Vec<f64> = found.values.iter().map(|&w| f64::from_bits(w)).collect();
+        let s = self.second;
+        match found.kind {
+            1 if v.len() < 2 && self.is(Wrong::LinearShortUnchanged) => Ok(Says::Unchanged),
+            1 => Ok(Says::Number(s.linear(&v, x))),
+            2 => Ok(Says::Number(s.rational(&v, x))),
+            4 | 5 => Ok(Says::Number(s.table(&v, x, found.kind == 4))),
+            6 => Ok(Says::Number(s.range_to_value(&v, x, integer))),
+            7 => self.follow(found, s.key_index(&v, found.refs.len(), x), value, x),
+            _ => self.follow(found, s.range_index(&v, x, integer), value, x),
+        }
+    }
+
+    fn nested(&mut self, address: u64, value: Value) -> Result<Says, Formula> {
+        let says = self.apply(address, value)?;
+        if self.is(Wrong::MeasuringVisits) && matches!(says, Says::Text(_)) {
+            self.begun += 1;
+        }
+        Ok(says)
+    }
+
+    /// Types 7 and 8: what the reference at the index decides.
+    fn follow(&mut self, found: &Found, (index, matched): (usize, bool), value: Value, x: f64) -> Result<Says, Formula> {
+        let value = if self.is(Wrong::NestedGetsFloat) { Value::Float(x) } else { value };
+        let reference = found.refs.get(index).copied();
+        let lead = self.second.lead(self.image, reference.unwrap_or(0));
+        let default = self.default_conversion(found);
+        match lead {
+            Lead::Text(from, to) => return Ok(Says::Text(self.image[from..to].to_vec())),
+            Lead::Conversion(address) => return self.nested(address, value),
+            Lead::Nil if matched => {
+                let unchanged = match reference {
+                    Some(_) => self.is(Wrong::MatchedNilUnchanged),
+                    None => self.is(Wrong::MatchedMissingUnchanged),
+                };
+                if unchanged {
+                    return Ok(Says::Unchanged);
+                }
+                if !(self.is(Wrong::MatchedNilTakesDefault) && default.is_some()) {
+                    return Ok(Says::Text(Vec::new()));
+                }
+            }
+            _ => {}
+        }
+        match default {
+            Some(_) if matched && self.is(Wrong::NoDefaultForMatch) => Ok(Says::Unchanged),
+            Some(address) => self.nested(address, value),
+            None if reference == Some(0) && self.is(Wrong::UnmatchedNilEmpty) => Ok(Says::Text(Vec::new())),
+            None => Ok(Says::Unchanged),
+        }
+    }
+
+    /// Only type 8: the last of more than two references, if it is a ##CC.
+    fn default_conversion(&self, found: &Found) -> Option<u64> {
+        let typed = found.kind == 8 || self.is(Wrong::ValueToTextHasDefault);
+        let least = if self.is(Wrong::DefaultOfTwo) { 2 } else { 3 };
+        match found.refs.last() {
+            Some(&link) if typed && found.refs.len() >= least => match self.second.lead(self.image, link) {
+                Lead::Conversion(address) => Some(address),
+                _ => None,
+            },
+            _ => None,
+        }
+    }
+
+    fn text_to_value(&self, found: &Found) -> Says {
+        let equal = |&link: &u64| self.second.key_is(self.image, link, self.text);
+        let key = match self.second.wrong {
+            Wrong::TextToValueLast => found.refs.iter().rposition(equal),
+            _ => found.refs.iter().position(equal),
+        };
+        let default_at = match self.second.wrong {
+            Wrong::TextToValueDefaultLast => found.values.len().saturating_sub(1),
+            _ => found.refs.len(),
+        };
+        let mut value = found.values.get(key.unwrap_or(default_at));
+        if value.is_none() && self.is(Wrong::TextToValueFallsThrough) {
+            value = found.values.last();
+        }
+        value.map_or(Says::Unknown, |&w| Says::Number(f64::from_bits(w)))
+    }
+
+    fn text_to_text(&self, found: &Found) -> Says {
+        match self.second.chosen_text(self.image, &found.refs, self.text) {
+            Some((from, to)) => Says::Text(self.image[from..to].to_vec()),
+            None if self.is(Wrong::NoTranslationUnknown) => Says::Unknown,
+            None => Says::Unchanged,
+        }
+    }
+
+    fn bit_groups(&mut self, found: &Found, value: Value) -> Result<Says, Formula> {
+        let Some(bits) = self.second.group_bits(value) else { return Ok(Says::Unchanged) };
+        let mut parts: Vec<Vec<u8>> = Vec::new();
+        for (&link, &word) in found.refs.iter().zip(&found.values) {
+            if link == 0 && self.is(Wrong::NilEndsGroups) {
+                break;
+            }
+            if let Some(part) = self.part(found, link, bits, bits & self.second.mask(word))? {
+                if !(part.is_empty() && self.is(Wrong::EmptyPartDropped)) {
+                    parts.push(part);
+                }
+            }
+            let length = parts.iter().map(|p| p.len() + 1).sum::<usize>().saturating_sub(1);
+            self.longest = self.longest.max(length);
+        }
+        if parts.is_empty() && self.is(Wrong::NoPartsUnchanged) {
+            return Ok(Says::Unchanged);
+        }
+        Ok(Says::Text(parts.join(&b'|')))
+    }
+
+    /// What one group adds, if anything.
+    fn part(&mut self, groups: &Found, link: u64, whole: u64, masked: u64) -> Result<Option<Vec<u8>>, Formula> {
+        match self.second.lead(self.image, link) {
+            Lead::Text(..) if masked == 0 && self.is(Wrong::TextPartNeedsBits) => Ok(None),
+            Lead::Text(from, to) => Ok(Some(self.image[from..to].to_vec())),
+            Lead::Conversion(_) if masked == 0 && self.is(Wrong::GroupNeedsBits) => Ok(None),
+            Lead::Conversion(address) => {
+                let value = match self.second.wrong {
+                    Wrong::GroupGetsWhole => Value::Unsigned(whole),
+                    Wrong::GroupGetsSigned => Value::Signed(masked as i64),
+                    _ => Value::Unsigned(masked),
+                };
+                match self.nested(address, value)? {
+                    Says::Text(text) => Ok(Some(self.named(groups, address, text))),
+                    _ => Ok(None),
+                }
+            }
+            Lead::Nil | Lead::Nowhere => Ok(None),
+        }
+    }
+
+    /// A part with the name of its block before it, where that name link gives a text.
+    fn named(&self, groups: &Found, address: u64, text: Vec<u8>) -> Vec<u8> {
+        let own = self.second.read(self.image, address).map_or(0, |b| b.fixed[0]);
+        let link = match self.second.wrong {
+            Wrong::GroupWithoutName => 0,
+            Wrong::GroupNamedByParent => groups.fixed[0],
+            _ => own,
+        };
+        match self.second.text_of(self.image, link) {
+            Some((from, to)) => [&self.image[from..to], b" = ", &text].concat(),
+            None => text,
+        }
+    }
+}

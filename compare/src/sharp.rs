@@ -1,0 +1,81 @@
+// Is the comparison sharp? Each wrong build takes the place of ours and has to be caught by the judge that the list names.
+use crate::judge::{with_crate, with_side, Difference};
+use crate::ours::Ours;
+use crate::reduce;
+use crate::scene::Scene;
+use crate::second::Second;
+use crate::spill::guards_see;
+use crate::tally::Tally;
+use crate::wrong::{Judge, Wrong, LIST};
+
+/// So many images are tried on a wrong build where no other number is given.
+pub const MOST_SCENES: u64 = 100_000;
+
+fn verdict(wrong: Wrong, judge: Judge, scene: &Scene) -> Option<Difference> {
+    let (build, mut tally) = (Second { wrong }, Tally::default());
+    match judge {
+        Judge::Crate => with_crate(&build, scene, &mut tally).err(),
+        Judge::Ours => with_side(&build, &Ours, scene, &mut tally).err(),
+    }
+}
+
+/// Prints the smallest input that shows one wrong build; true if there is one.
+pub fn show(number: usize, seed: u64) -> bool {
+    let Some(&(wrong, judge, says)) = LIST.get(number.wrapping_sub(1)) else { return false };
+    println!("{says}");
+    let found = (0..MOST_SCENES).map(|i| Scene::new(seed, i)).find(|s| verdict(wrong, judge, s).is_some());
+    found.map(|scene| reduce::tell_smallest(scene, &|s| verdict(wrong, judge, s))).is_some()
+}
+
+/// How many scenes it takes to catch a wrong build; none if so many do not.
+fn caught_after(wrong: Wrong, judge: Judge, seed: u64, scenes: u64) -> Option<u64> {
+    (0..scenes).find(|&i| verdict(wrong, judge, &Scene::new(seed, i)).is_some())
+}
+
+/// Runs all wrong builds; true if each is caught.
+pub fn run(seed: u64, scenes: u64) -> bool {
+    let sound = guards_see(seed, scenes) && page_is_the_list();
+    let mut caught = [0, 0];
+    for (i, &(wrong, judge, says)) in LIST.iter().enumerate() {
+        match caught_after(wrong, judge, seed, scenes) {
+            Some(n) => {
+                caught[judge as usize] += 1;
+                println!("{:3} caught by {judge:?} after {} images: {says}", i + 1, n + 1);
+            }
+            None => println!("{:3} NOT caught by {judge:?} in {scenes} images: {says}", i + 1),
+        }
+    }
+    let all = caught[0] + caught[1];
+    println!("{all} of {} wrong builds caught: {} by the crate, {} by the proved build", LIST.len(), caught[0], caught[1]);
+    sound && all == LIST.len()
+}
+
+/// The list as WRONG-BUILDS.md has it.
+pub fn list() -> String {
+    let mut lines = vec![
+        "# Wrong builds".to_string(),
+        String::new(),
+        "Each is the second reading (src/second.rs) with one rule of document 01 broken. `make sharp` puts each in the place of ours, looks whether"
+            .to_string(),
+        "the comparison catches it, and prints how many it caught.".to_string(),
+        String::new(),
+        "\"Crate\": the comparison with the crate has to catch it. \"Ours\": the crate has no such rule or no say, and the comparison with the"
+            .to_string(),
+        "proved build has to catch it. `compare list` prints this page, and `make sharp` says so if it is not the list that was run.".to_string(),
+        String::new(),
+        "| no. | caught by | the broken rule |".to_string(),
+        "|---|---|---|".to_string(),
+    ];
+    let row = |(i, (_, judge, says)): (usize, &(Wrong, Judge, &str))| format!("| {} | {judge:?} | {says} |", i + 1);
+    lines.extend(LIST.iter().enumerate().map(row));
+    lines.join("\n") + "\n"
+}
+
+/// Whether WRONG-BUILDS.md is this list.
+fn page_is_the_list() -> bool {
+    let same = include_str!("../WRONG-BUILDS.md") == list();
+    if !same {
+        println!("WRONG-BUILDS.md is not the list of this build: write it anew by 'compare list'");
+    }
+    same
+}

@@ -1,0 +1,122 @@
+// What two sides are asked and what they answer: the C face's own structures, and the trait that the proved build and the second reading share.
+
+/// A value to convert; a text's bytes stand beside it. `Other` carries a number that picks one of the crate's kinds without a rule.
+#[derive(Clone, Copy, Debug, PartialEq)]
+pub enum Value {
+    Unsigned(u64),
+    Signed(i64),
+    Float(f64),
+    Text,
+    Other(u8),
+}
+
+#[repr(C)]
+#[derive(Clone, Copy, Debug, PartialEq, Eq)]
+pub struct Checked {
+    pub refusal: u32,
+    pub visits: u32,
+    pub address: u64,
+}
+
+/// `kind`: 0 refused, 1 number, 2 text, 3 unchanged, 4 unknown.
+#[repr(C)]
+#[derive(Clone, Copy, Debug)]
+pub struct Applied {
+    pub refusal: u32,
+    pub kind: u32,
+    pub number: f64,
+    pub length: u64,
+    pub address: u64,
+    pub checked: u32,
+    pub applied: u32,
+}
+
+#[repr(C)]
+#[derive(Clone, Copy, Debug, PartialEq, Eq)]
+pub struct Shown {
+    pub from_image: u32,
+    pub start: u64,
+    pub length: u64,
+}
+
+#[repr(C)]
+#[derive(Clone, Copy, Debug, Default)]
+pub struct Block {
+    pub length: u64,
+    pub links: u64,
+    pub name: u64,
+    pub unit: u64,
+    pub comment: u64,
+    pub inverse: u64,
+    pub range_min: f64,
+    pub range_max: f64,
+    pub min_word: u64,
+    pub max_word: u64,
+    pub flags: u16,
+    pub ref_count: u16,
+    pub val_count: u16,
+    pub kind: u8,
+    pub precision: u8,
+    pub ranged: bool,
+}
+
+#[repr(C)]
+#[derive(Clone, Copy, Debug)]
+pub struct Parsed {
+    pub refusal: u32,
+    pub address: u64,
+    pub block: Block,
+}
+
+#[repr(C)]
+#[derive(Clone, Copy, Debug, PartialEq, Eq)]
+pub struct Written {
+    pub refusal: u32,
+    pub length: u64,
+}
+
+/// One of the two builds of document 01 that are compared.
+pub trait Side {
+    fn check(&self, image: &[u8], address: u64, limit: u32) -> Checked;
+    fn apply(&self, image: &[u8], address: u64, limit: u32, value: Value, text: &[u8], out: &mut [u8]) -> Applied;
+    fn translate(&self, image: &[u8], address: u64, limit: u32, question: &[u8]) -> Shown;
+    fn parse(&self, image: &[u8], address: u64) -> Parsed;
+    fn write(&self, block: Block, refs: &[u64], words: &[u64], out: &mut [u8]) -> Written;
+
+    /// What a call has touched that it may not, since this was last asked.
+    fn fault(&self) -> Option<&'static str> {
+        None
+    }
+}
+
+/// Equal bits, all NaNs as one.
+pub fn same_float(a: f64, b: f64) -> bool {
+    a.to_bits() == b.to_bits() || (a.is_nan() && b.is_nan())
+}
+
+impl PartialEq for Applied {
+    fn eq(&self, other: &Applied) -> bool {
+        same_float(self.number, other.number)
+            && (self.refusal, self.kind, self.length, self.address) == (other.refusal, other.kind, other.length, other.address)
+            && (self.checked, self.applied) == (other.checked, other.applied)
+    }
+}
+
+impl PartialEq for Block {
+    fn eq(&self, other: &Block) -> bool {
+        same_float(self.range_min, other.range_min) && same_float(self.range_max, other.range_max) && self.whole_numbers() == other.whole_numbers()
+    }
+}
+
+impl Block {
+    fn whole_numbers(&self) -> ([u64; 8], [u16; 3], u8, u8, bool) {
+        let words = [self.length, self.links, self.name, self.unit, self.comment, self.inverse, self.min_word, self.max_word];
+        (words, [self.flags, self.ref_count, self.val_count], self.kind, self.precision, self.ranged)
+    }
+}
+
+impl PartialEq for Parsed {
+    fn eq(&self, other: &Parsed) -> bool {
+        (self.refusal, self.address) == (other.refusal, other.address) && self.block == other.block
+    }
+}
