@@ -5,3 +5,4 @@ pub mod build;
 pub mod parts;
 pub mod read;
 pub mod table;
+pub mod value;
