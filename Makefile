@@ -39,7 +39,7 @@ sharp: kit
 
 # Makes the recorded answers of the program replay anew.
 record: kit
-	@compare/run record crates/replay 150 $(SEED)
+	@compare/run record crates/replay 300 $(SEED)
 
 # The speed beside the crate: docs/BENCHMARKS.md says how it is taken.
 bench: kit

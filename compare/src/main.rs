@@ -99,7 +99,7 @@ fn main() -> ExitCode {
         }
         Some("record") => {
             let folder = words.get(1).map_or("crates/replay", String::as_str);
-            println!("recorded: {} answers in {folder}", record::run(folder, number(words.get(2), 150) as usize, number(words.get(3), 1)));
+            println!("recorded: {} answers in {folder}", record::run(folder, number(words.get(2), 300) as usize, number(words.get(3), 1)));
             true
         }
         Some("list") => {

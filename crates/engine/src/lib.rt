@@ -3,8 +3,7 @@
 // and bitfield.rs.
 //
 // Only bit groups write: a text that is a part of the image is said as that part. They measure and write by the same functions, see crate
-// `pieces`. The engine is total over every image; a block that cannot be opened stops it, which
-// an accepted check rules out.
+// `pieces`. The engine is total over every image; a block that cannot be opened stops it, which an accepted check rules out.
 use blocks::Block;
 use common::refusal::Word;
 use leads::lead::Lead;
