@@ -2,6 +2,7 @@
 //
 // A table is text that is written as it is, and commands. A command is a letter and what belongs to it, each behind one space.
 pub mod build;
+pub mod line;
 pub mod parts;
 pub mod read;
 pub mod table;

@@ -14,6 +14,12 @@ pub fn part(bytes: &[u8], from: usize, to: usize) {
     }
 }
 
+// A part as a line.
+pub fn whole(bytes: &[u8], from: usize, to: usize) {
+    part(bytes, from, to);
+    io::write_all(1, b"\n");
+}
+
 pub fn quoted(bytes: &[u8], from: usize, to: usize) {
     io::write_all(1, b"\"");
     part(bytes, from, to);

@@ -1,6 +1,7 @@
 // The image that the values stand in: from byte 27 on, between bytes of 0x5a that would show if a place was wrong.
 use crate::read;
 use crate::read::Found;
+use lines::line::byte;
 
 // The place of the first value, the most values, and the place behind the last of so many.
 pub const FIRST: usize = 27;
@@ -37,7 +38,7 @@ pub fn list(text: &[u8], at: usize, end: usize, image: &mut [u8]) -> Listed {
         if MOST <= n {
             return Listed::NotUnderstood;
         }
-        if read::byte(text, i) != b' ' {
+        if byte(text, i) != b' ' {
             return Listed::NotUnderstood;
         }
         let Found::Bits(v, behind) = read::word(text, read::next(i), end) else {

@@ -10,6 +10,11 @@ mod read;
 mod run;
 mod say;
 
+use lines::line::byte;
+use lines::line::line_end;
+use lines::line::past;
+use print::text::part;
+use print::text::whole;
 use read::Given;
 use rules::number::Taken;
 
@@ -26,8 +31,8 @@ fn each(
 ) {
     let mut i = at;
     while i < stop {
-        say::part(text, from, end);
-        run::answer(read::byte(text, i), image, n, t);
+        part(text, from, end);
+        run::answer(byte(text, i), image, n, t);
         i += 1;
     }
 }
@@ -57,12 +62,12 @@ fn values(text: &[u8], at: usize, from: usize, end: usize, image: &mut [u8]) -> 
 
 // One line; the image has `n` values. Answers how many it has then.
 fn line(text: &[u8], at: usize, end: usize, image: &mut [u8], n: usize) -> usize {
-    let letter = read::byte(text, at);
+    let letter = byte(text, at);
     if letter == b'v' {
         return values(text, at, read::next(at), end, image);
     }
     if letter == b'=' {
-        say::whole(text, read::next(read::next(at)), end);
+        whole(text, read::next(read::next(at)), end);
         return n;
     }
     if letter != b'#' {
@@ -77,9 +82,9 @@ fn all(text: &[u8], image: &mut [u8]) {
     let mut at = 0;
     let mut n = 0;
     while at < text.len() {
-        let end = read::line_end(text, at);
+        let end = line_end(text, at);
         n = line(text, at, end, image, n);
-        at = read::past(at, end);
+        at = past(at, end);
     }
 }
 

@@ -1,7 +1,6 @@
-// Bytes, words and lines of a text. A word ends at a space or at the end of its line.
+// Words and values of a text. A word ends at a space or at the end of its line.
+use lines::line::byte;
 use rules::number::Value;
-ghost use Prim.Native.Nat.{_+_, _≤_, _<_};
-ghost use lib.ListN.{length};
 
 // The number that a word spells, and the place behind the word.
 pub enum Found {
@@ -21,36 +20,9 @@ enum Grown {
     NoNumber,
 }
 
-pub fn byte(text: &[u8], at: usize) -> u8 {
-    if at < text.len() { text[at] } else { 0 }
-}
-
 // One place on.
 pub fn next(at: usize) -> usize {
     if at < 1000000 { at + 1 } else { at }
-}
-
-// The place behind a line that ends at `end`.
-pub fn past(at: usize, end: usize) -> usize
-    requires { ⌜ (at < 9223372036854775808) × (end < 9223372036854775808) ⌝ }
-    ensures { λ r. ⌜ at < r ⌝ }
-{
-    if at <= end { end + 1 } else { at + 1 }
-}
-
-// The place of the newline that ends the line at `at`, or of the text's end.
-pub fn line_end(text: &[u8], at: usize) -> usize
-    requires { ⌜ at ≤ length (now text) ⌝ }
-    ensures { λ r. do ⌜ r ≤ (← ⟦text.len()⟧ .entry) ⌝ }
-{
-    let mut i = at;
-    while i < text.len() {
-        if text[i] == b'\n' {
-            return i;
-        }
-        i += 1;
-    }
-    i
 }
 
 fn is_rule(b: u8) -> bool {

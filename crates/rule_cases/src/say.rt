@@ -1,20 +1,6 @@
 // What is written.
+use print::text::whole;
 use rules::search::Searched;
-
-// A part of the text.
-pub fn part(text: &[u8], from: usize, to: usize) {
-    if from <= to {
-        if to <= text.len() {
-            io::write_all(1, &text[from..to]);
-        }
-    }
-}
-
-// A part of the text as a line.
-pub fn whole(text: &[u8], from: usize, to: usize) {
-    part(text, from, to);
-    io::write_all(1, b"\n");
-}
 
 pub fn unknown(text: &[u8], at: usize, end: usize) {
     io::write_all(1, b"not understood: ");

@@ -8,13 +8,18 @@ mod build;
 mod read;
 mod say;
 
+use lines::line::byte;
+use lines::line::line_end;
+use lines::line::past;
+use print::text::part;
+use print::text::whole;
 use read::Found;
 
 // The check of a case, behind its label.
 fn check(text: &[u8], at: usize, end: usize, image: &[u8]) {
     let a = read::number(text, at);
     let l = read::number(text, a.next);
-    say::part(text, l.next, end);
+    part(text, l.next, end);
     if l.value < 4294967296 {
         say::answer(tree::check(image, a.value, l.value as u32));
     }
@@ -43,7 +48,7 @@ fn is_change(letter: u8) -> bool {
 
 // One line, from its letter on; the image is the first `n` bytes. Answers how many bytes the image has then.
 fn line(text: &[u8], at: usize, end: usize, image: &mut [u8], n: usize) -> usize {
-    let letter = read::byte(text, at);
+    let letter = byte(text, at);
     if letter == b'i' {
         let size: Found = read::number(text, read::after(at));
         build::clear(image);
@@ -60,7 +65,7 @@ fn line(text: &[u8], at: usize, end: usize, image: &mut [u8], n: usize) -> usize
         return n;
     }
     if letter == b'=' {
-        say::whole(text, read::after(at), end);
+        whole(text, read::after(at), end);
     }
     n
 }
@@ -69,9 +74,9 @@ fn all(text: &[u8], image: &mut [u8]) {
     let mut at = 0;
     let mut n = 0;
     while at < text.len() {
-        let end = read::line_end(text, at);
+        let end = line_end(text, at);
         n = line(text, at, end, image, n);
-        at = read::past(at, end);
+        at = past(at, end);
     }
 }
 

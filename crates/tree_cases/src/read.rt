@@ -1,6 +1,4 @@
-// Bytes, numbers and lines of a text. Nothing here refuses: a number that is too large stays at the largest.
-ghost use Prim.Native.Nat.{_+_, _≤_, _<_};
-ghost use lib.ListN.{length};
+// Numbers of a text. Nothing here refuses: a number that is too large stays at the largest.
 
 // The number found, and the place behind it and the space that follows.
 pub struct Found {
@@ -8,36 +6,9 @@ pub struct Found {
     pub next: usize,
 }
 
-pub fn byte(text: &[u8], at: usize) -> u8 {
-    if at < text.len() { text[at] } else { 0 }
-}
-
 // Two places on: behind a letter and its space.
 pub fn after(at: usize) -> usize {
     if at < 1000000 { at + 2 } else { at }
-}
-
-// The place behind a line that ends at `end`.
-pub fn past(at: usize, end: usize) -> usize
-    requires { ⌜ (at < 9223372036854775808) × (end < 9223372036854775808) ⌝ }
-    ensures { λ r. ⌜ at < r ⌝ }
-{
-    if at <= end { end + 1 } else { at + 1 }
-}
-
-// The place of the newline that ends the line at `at`, or of the text's end.
-pub fn line_end(text: &[u8], at: usize) -> usize
-    requires { ⌜ at ≤ length (now text) ⌝ }
-    ensures { λ r. do ⌜ r ≤ (← ⟦text.len()⟧ .entry) ⌝ }
-{
-    let mut i = at;
-    while i < text.len() {
-        if text[i] == b'\n' {
-            return i;
-        }
-        i += 1;
-    }
-    i
 }
 
 fn is_digit(b: u8) -> bool {

@@ -1,10 +1,10 @@
--- `tree_cases::read::line_end` meets its contract. Assumes nothing.
+-- `lines::line::line_end` meets its contract. Assumes nothing.
 use borrow.Author.Needs.{needs}
 use mathlib.Core.Path.{_≡_}
 use Prim.Native.Nat.{_≤_, _-_}
 use lib.ListN.{length}
-use Rattle.tree_cases.proofs.read.line_end.Statement.{statement}
-use Rattle.tree_cases.proofs.read.line_end.Tie as tie
+use Rattle.lines.proofs.line.line_end.Statement.{statement}
+use Rattle.lines.proofs.line.line_end.Tie as tie
 
 abbrev Inv-loop : tie.InvT-loop
 Inv-loop text at i₀ i = i ≤ length text
