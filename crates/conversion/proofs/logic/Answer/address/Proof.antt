@@ -1,4 +1,6 @@
 -- `conversion::logic::Answer::address` meets its contract. Assumes nothing.
+use mathlib.Core.Path.{sym, ap, _∙_}
+use Rattle.conversion.specs.Entry.{addressIn}
 use Rattle.conversion.proofs.Refusals.{none-refused}
 use borrow.Author.Needs.{needs}
 use Rattle.conversion.proofs.logic.Answer.address.Statement.{statement}
@@ -11,7 +13,7 @@ address-requires : tie.Need-address-requires
 address-requires c κs = search needs
 
 returns : tie.Need-returns
-returns c = search needs
+returns c = c .address .ensures ∙ ap addressIn (sym (c .before .before .self .given .1))
 
 returns-2 : tie.Need-returns-2
 returns-2 c = none-refused (c .before .args .self) (c .match .keys2) .1
