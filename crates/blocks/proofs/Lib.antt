@@ -1,3 +1,4 @@
 pub mod Opening
+pub mod Looking
 pub mod Joined
 pub mod Places

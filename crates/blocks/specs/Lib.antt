@@ -1,3 +1,4 @@
 pub mod Block
 pub mod Make
 pub mod Place
+pub mod View

@@ -1,17 +1,22 @@
 // The record of a ##CC block: read from an image, and its references and values read by place. Carries over the parsing half of base.rs.
 //
 // Nothing is copied: the record says where the references and the values stand, and the image is read again.
+pub mod view;
+
 use common::header::Header;
 use common::refusal::Refusal;
 use common::refusal::Word;
+use view::Seen;
+use view::View;
 use words::Cursor;
 ghost use mathlib.Core.Path.{_≡_};
 ghost use Prim.Native.Nat.{_+_, _-_, _*_, _≤_, _<_, _^_};
 ghost use lib.ListN as ListN;
-ghost use Rattle.common.specs.Header.{headerAt};
-ghost use Rattle.blocks.specs.Block.{fixedAt, fieldsAt, rangeAt, rangeSize, hasRange, fieldsPlace, blockEnd, blockAt, opened, parsed};
+ghost use Rattle.blocks.specs.Block.{fixedAt, fieldsAt, rangeAt, rangeSize, hasRange, blockAt, opened, parsed};
+ghost use Rattle.blocks.specs.View.{seen};
+ghost use Rattle.blocks.specs.declared.view.Seen.the-variants.{Open};
 ghost use Rattle.blocks.specs.Make.{emptyOf, withLinks, withDetails, withRange};
-ghost use Rattle.blocks.specs.Place.{wordIn, referenceOf, valueWordOf, valueOf};
+ghost use Rattle.blocks.specs.Place.{referenceOf, valueWordOf, valueOf};
 
 pub struct Block {
     // As the header has them.
@@ -142,11 +147,11 @@ pub fn range_size(ranged: bool) -> usize
 }
 
 // The range is there by the block length, links as written in the header; the flags play no part.
-fn has_range(head: Header, fields: Fields) -> bool
-    requires { ⌜ head .links < 2 ^ 60 ⌝ }
-    ensures { λ r. ⌜ r ≡ hasRange (head .length) (head .links) (fields .valcount) ⌝ }
+fn has_range(length: u64, links: u64, valcount: u16) -> bool
+    requires { ⌜ links < 2 ^ 60 ⌝ }
+    ensures { λ r. ⌜ r ≡ hasRange length links valcount ⌝ }
 {
-    24 + 8 * head.links + 8 + 8 * (fields.valcount as u64) + 16 <= head.length
+    24 + 8 * links + 8 + 8 * (valcount as u64) + 16 <= length
 }
 
 // The references past the four fixed links; none where the count is below 4.
@@ -158,21 +163,6 @@ fn less_fixed(links: u64) -> u64
     } else {
         links - Block::FIXED
     }
-}
-
-// The word at the i-th of `count` places, eight bytes each, from `first` on, where that place is there and lies in the image.
-fn word_in(image: &[u8], first: u64, count: u64, i: u64) -> Word
-    ensures { λ r. ⌜ r ≡ wordIn (now (image .entry)) first count i ⌝ }
-{
-    let end = image.len() as u64;
-    if i < count {
-        if first <= end {
-            if i < (end - first) / 8 {
-                return Word::Bits(words::u64_at(image, (first + 8 * i) as usize));
-            }
-        }
-    }
-    Word::NoWord
 }
 
 impl Block {
@@ -241,25 +231,17 @@ impl Block {
         self
     }
 
-    // The record, once it is known that the whole block lies in the image.
-    fn assembled(
-        image: &[u8],
-        at: usize,
-        head: Header,
-        place: usize,
-        fields: Fields,
-        ranged: bool,
-    ) -> Block
-        requires { ⌜ head ≡ headerAt (now image) at ⌝ }
-        requires { ⌜ place ≡ fieldsPlace (now image) at ⌝ }
-        requires { ⌜ fields ≡ fieldsAt (now image) place ⌝ }
-        requires { ⌜ ranged ≡ hasRange (head .length) (head .links) (fields .valcount) ⌝ }
-        requires { ⌜ place + 8 + rangeSize ranged ≤ ListN.length (now image) ⌝ }
+    // The record of a block that lies whole in the image, as it was seen.
+    fn assembled(image: &[u8], at: usize, view: View) -> Block
+        requires { ⌜ (at + 64 + 8 * view .refs ≤ ListN.length (now image)) × (seen (now image) at ≡ Open view) ⌝ }
         ensures { λ r. ⌜ r ≡ blockAt (now (image .entry)) at ⌝ }
     {
+        let head = Header::read(image, at);
         let fixed = fixed_at(image, at + Block::HEADER);
+        let place = at + 56 + 8 * (view.refs as usize);
+        let fields = fields_at(image, place);
+        let ranged = has_range(head.length, head.links, fields.valcount);
         let range = range_at(image, place + 8, ranged);
-        let size = range_size(ranged);
         Block {
             length: head.length,
             links: head.links,
@@ -277,8 +259,8 @@ impl Block {
             maximum: range.maximum,
             minword: range.minword,
             maxword: range.maxword,
-            firstref: (at + 56) as u64,
-            firstval: (place + 8 + size) as u64,
+            firstref: view.firstref,
+            firstval: view.firstval,
         }
     }
 
@@ -287,23 +269,9 @@ impl Block {
         requires { ⌜ at + 24 ≤ ListN.length (now image) ⌝ }
         ensures { λ r. ⌜ r ≡ opened (now (image .entry)) at ⌝ }
     {
-        let head = Header::read(image, at);
-        let refs = less_fixed(head.links);
-        let room = image.len() - at;
-        if room < 64 {
-            return Parsed::Refused(Refusal::Short(at as u64));
-        }
-        if (((room - 64) / 8) as u64) < refs {
-            return Parsed::Refused(Refusal::Short(at as u64));
-        }
-        let place = at + 56 + 8 * (refs as usize);
-        let fields = fields_at(image, place);
-        let ranged = has_range(head, fields);
-        let size = range_size(ranged);
-        if place + 8 + size + 8 * (fields.valcount as usize) <= image.len() {
-            Parsed::Whole(Block::assembled(image, at, head, place, fields, ranged))
-        } else {
-            Parsed::Refused(Refusal::Short(at as u64))
+        match View::look(image, at) {
+            Seen::Open(view) => Parsed::Whole(Block::assembled(image, at, view)),
+            Seen::Cut => Parsed::Refused(Refusal::Short(at as u64)),
         }
     }
 
@@ -334,23 +302,20 @@ impl Block {
     pub fn reference(self, image: &[u8], i: u64) -> Word
         ensures { λ r. ⌜ r ≡ referenceOf (now (image .entry)) self i ⌝ }
     {
-        word_in(image, self.firstref, less_fixed(self.links), i)
+        View::of(self).reference(image, i)
     }
 
     // The i-th value's 64 bits.
     pub fn value_word(self, image: &[u8], i: u64) -> Word
         ensures { λ r. ⌜ r ≡ valueWordOf (now (image .entry)) self i ⌝ }
     {
-        word_in(image, self.firstval, self.valcount as u64, i)
+        View::of(self).value_word(image, i)
     }
 
     // The i-th value.
     pub fn value(self, image: &[u8], i: u64) -> Number
         ensures { λ r. ⌜ r ≡ valueOf (now (image .entry)) self i ⌝ }
     {
-        match self.value_word(image, i) {
-            Word::Bits(w) => Number::Value(floats::from_bits(w)),
-            Word::NoWord => Number::NoValue,
-        }
+        View::of(self).value(image, i)
     }
 }

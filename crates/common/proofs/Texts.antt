@@ -1,25 +1,21 @@
--- The text of a text block: what the loop over its bytes keeps, what is answered after each test, and what is known of an answer.
--- Assumes nothing.
-use mathlib.Core.Path.{_≡_, refl, sym, ap, _∙_, subst}
+-- The text of a text block: its bytes one after the other, what is answered after each test, and what is known of an answer. Assumes nothing.
+use mathlib.Core.Path.{_≡_, refl, sym, ap, _∙_}
 use mathlib.Core.Bool.{Bool, true, false, not, _&&_, cond}
 use mathlib.Core.List.{List, [], _∷_}
 use Prim.Native.Nat.{ℕ, suc, _+_, _-_, _≤_, _<_}
 use native.Mathlib.Omega.{arith}
 use native.Mathlib.Numerals.{add-one}
-use borrow.Author.Tests.{le-leb, lt-leb, leb-true, eq-eqb, ne-eqb}
+use borrow.Author.Tests.{le-leb, lt-leb, leb-true, ne-eqb}
 use lib.Dec.{leb, eqb}
-use lib.ListN.{length, getD, take, drop, length-take, length-drop}
-use lib.Seq.{drop-cons, length-take-le, take-take}
-use Rattle.words.specs.Words.{word32, word64}
-use Rattle.common.specs.Header.{inside, isText, textId}
-use Rattle.common.specs.Text.{untilZero, textBytes, isWholeText, textAt, textOf, shown, Within}
+use lib.ListN.{length, getD, take, drop, length-take}
+use lib.Seq.{drop-cons, take-take}
+use Rattle.words.specs.Words.{word64}
+use Rattle.common.specs.Header.{inside, isText}
+use Rattle.common.specs.Text.{untilZero, isWholeText, runAt, runOf, textBytes, cutOff, textOf, shown, Within}
 use Rattle.common.specs.declared.text.Text.{Text}
 use Rattle.common.specs.declared.text.Text.the-variants.{Part, NoText}
 
--- ---- the loop: the bytes from i up to `to` begin with the byte at i
-abbrev pub left : List ℕ → ℕ → ℕ → ℕ
-left img i to = length (untilZero (take (to - i) (drop i img)))
-
+-- ---- the bytes from i up to `to` begin with the byte at i
 pub first-byte : (img : List ℕ) (i to : ℕ) → i < to → to ≤ length img
     → take (to - i) (drop i img) ≡ getD img i 0 ∷ take (to - (i + 1)) (drop (i + 1) img)
 first-byte img i to h k =
@@ -29,48 +25,50 @@ first-byte img i to h k =
     ∙ ap (λ (l : List ℕ). take (suc (to - (i + 1))) l) (drop-cons img i 0 inner)
     ∙ ap (λ (m : ℕ). getD img i 0 ∷ take (to - (i + 1)) (drop m img)) (sym (add-one i))
 
-pub left-zero : (img : List ℕ) (i to : ℕ) → i < to → to ≤ length img → getD img i 0 ≡ 0 → left img i to ≡ 0
-unfolding untilZero
-left-zero img i to h k z = rw (first-byte img i to h k, z)
+-- a text's bytes from i on: none at a zero byte and at the run's end, else the byte at i and those behind it
+pub bytes-zero : (img : List ℕ) (i to : ℕ) → i < to → to ≤ length img → getD img i 0 ≡ 0 → textBytes img i to ≡ []
+unfolding textBytes untilZero
+bytes-zero img i to h k z = rw (first-byte img i to h k, z)
 
-pub left-more : (img : List ℕ) (i to : ℕ) → i < to → to ≤ length img → (getD img i 0 ≡ 0 → ⊥) → left img i to ≡ suc (left img (i + 1) to)
-unfolding untilZero
-left-more img i to h k z = rw (first-byte img i to h k, ne-eqb _ _ z)
+pub bytes-more : (img : List ℕ) (i to : ℕ) → i < to → to ≤ length img → (getD img i 0 ≡ 0 → ⊥)
+    → textBytes img i to ≡ getD img i 0 ∷ textBytes img (i + 1) to
+unfolding textBytes untilZero
+bytes-more img i to h k z = rw (first-byte img i to h k, ne-eqb _ _ z)
 
-pub left-none : (img : List ℕ) (to : ℕ) → left img to to ≡ 0
-unfolding untilZero
-left-none img to = let e : to - to ≡ 0 = omega arith in rw e
+pub bytes-none : (img : List ℕ) (i to : ℕ) → to ≤ i → textBytes img i to ≡ []
+unfolding textBytes untilZero
+bytes-none img i to h = let e : to - i ≡ 0 = omega arith in rw e
 
 -- ---- the answer after each test
 module _ (img : List ℕ) (a : ℕ) where
-  pub text-other : isText img a ≡ false → textAt img a ≡ NoText
-  unfolding textAt isWholeText
-  text-other t = rw t
+  pub run-other : isText img a ≡ false → runAt img a ≡ NoText
+  unfolding runAt isWholeText
+  run-other t = rw t
 
-  pub text-under : isText img a ≡ true → word64 img (a + 8) < 24 → textAt img a ≡ NoText
-  unfolding textAt isWholeText
-  text-under t h = simp (t, lt-leb _ _ h)
+  pub run-under : isText img a ≡ true → word64 img (a + 8) < 24 → runAt img a ≡ NoText
+  unfolding runAt isWholeText
+  run-under t h = simp (t, lt-leb _ _ h)
 
-  pub text-cut : isText img a ≡ true → 24 ≤ word64 img (a + 8) → length img < a + word64 img (a + 8) → textAt img a ≡ NoText
-  unfolding textAt isWholeText
-  text-cut t h k = simp (t, le-leb _ _ h, lt-leb _ _ k)
+  pub run-cut : isText img a ≡ true → 24 ≤ word64 img (a + 8) → length img < a + word64 img (a + 8) → runAt img a ≡ NoText
+  unfolding runAt isWholeText
+  run-cut t h k = simp (t, le-leb _ _ h, lt-leb _ _ k)
 
-  pub text-whole : isText img a ≡ true → 24 ≤ word64 img (a + 8) → a + word64 img (a + 8) ≤ length img
-      → textAt img a ≡ Part (a + 24) (a + 24 + length (textBytes img a))
-  unfolding textAt isWholeText
-  text-whole t h k = simp (t, le-leb _ _ h, le-leb _ _ k)
+  pub run-whole : isText img a ≡ true → 24 ≤ word64 img (a + 8) → a + word64 img (a + 8) ≤ length img
+      → runAt img a ≡ Part (a + 24) (a + word64 img (a + 8))
+  unfolding runAt isWholeText
+  run-whole t h k = simp (t, le-leb _ _ h, le-leb _ _ k)
 
-  pub text-nil : a ≡ 0 → textOf img a ≡ NoText
-  unfolding textOf
-  text-nil z = rw z
+  pub run-nil : a ≡ 0 → runOf img a ≡ NoText
+  unfolding runOf
+  run-nil z = rw z
 
-  pub text-outside : (a ≡ 0 → ⊥) → inside img a ≡ false → textOf img a ≡ NoText
-  unfolding textOf
-  text-outside z h = simp (ne-eqb a 0 z, h)
+  pub run-outside : (a ≡ 0 → ⊥) → inside img a ≡ false → runOf img a ≡ NoText
+  unfolding runOf
+  run-outside z h = simp (ne-eqb a 0 z, h)
 
-  pub text-inside : (a ≡ 0 → ⊥) → inside img a ≡ true → textOf img a ≡ textAt img a
-  unfolding textOf
-  text-inside z h = simp (ne-eqb a 0 z, h)
+  pub run-inside : (a ≡ 0 → ⊥) → inside img a ≡ true → runOf img a ≡ runAt img a
+  unfolding runOf
+  run-inside z h = simp (ne-eqb a 0 z, h)
 
 -- ---- what an answer is worth: its part lies in the image, and shows the text's bytes
 until-zero-short : (bs : List ℕ) → length (untilZero bs) ≤ length bs
@@ -92,40 +90,44 @@ until-zero-front (b ∷ bs) = go (eqb b 0) (until-zero-front bs)
     go true r = refl
     go false r = ap (λ (l : List ℕ). b ∷ l) r
 
-module _ (img : List ℕ) (a : ℕ) where
-  -- the text ends no later than the block
-  text-short : 24 ≤ word64 img (a + 8) → a + word64 img (a + 8) ≤ length img → a + 24 + length (textBytes img a) ≤ length img
-  unfolding textBytes
-  text-short h k =
-      let n = word64 img (a + 8) - 24 in
-      let bound = until-zero-short (take n (drop (a + 24) img)) in
-      let size : length (take n (drop (a + 24) img)) ≡ n = length-take-le n (drop (a + 24) img) (simp length-drop (omega arith)) in
-      omega arith
+-- a text is no longer than its run
+pub bytes-short : (img : List ℕ) (from to : ℕ) → length (textBytes img from to) ≤ to - from
+unfolding textBytes
+bytes-short img from to =
+    omega (arith, until-zero-short (take (to - from) (drop from img)), length-take (to - from) (drop from img))
 
-  pub text-at-within : Within img (textAt img a)
-  unfolding textAt isWholeText
-  text-at-within = go (isText img a) (leb 24 (word64 img (a + 8))) (leb (a + word64 img (a + 8)) (length img)) refl refl
-    where
-      go : (t u v : Bool) → leb 24 (word64 img (a + 8)) ≡ u → leb (a + word64 img (a + 8)) (length img) ≡ v
-          → Within img (cond (t && u && v) (Part (a + 24) (a + 24 + length (textBytes img a))) NoText)
-      go true true true p q = (omega arith, text-short (leb-true _ _ p) (leb-true _ _ q))
-      go true true false p q = tt
-      go true false v p q = tt
-      go false u v p q = tt
+-- the part that is cut off where the text ends shows the text
+pub text-shown : (img : List ℕ) (from to : ℕ) → shown img (Part from (from + length (textBytes img from to))) ≡ textBytes img from to
+unfolding textBytes
+text-shown img from to =
+    let bs = take (to - from) (drop from img) in
+    let n : (from + length (untilZero bs)) - from ≡ length (untilZero bs) = omega arith in
+    let few : length (untilZero bs) ≤ to - from = omega (arith, until-zero-short bs, length-take (to - from) (drop from img)) in
+    ap (λ (k : ℕ). take k (drop from img)) n ∙ sym (take-take (length (untilZero bs)) (to - from) (drop from img) few) ∙ until-zero-front bs
 
-  pub text-shown : shown img (Part (a + 24) (a + 24 + length (textBytes img a))) ≡ textBytes img a
-  unfolding textBytes
-  text-shown =
-      let bs = take (word64 img (a + 8) - 24) (drop (a + 24) img) in
-      let n : (a + 24 + length (untilZero bs)) - (a + 24) ≡ length (untilZero bs) = omega arith in
-      let few : length (untilZero bs) ≤ word64 img (a + 8) - 24 =
-      omega (arith, until-zero-short bs, length-take (word64 img (a + 8) - 24) (drop (a + 24) img)) in
-      ap (λ (k : ℕ). take k (drop (a + 24) img)) n ∙ sym (take-take (length (untilZero bs)) (word64 img (a + 8) - 24) (drop (a + 24) img) few) ∙ until-zero-front bs
+pub run-at-within : (img : List ℕ) (a : ℕ) → Within img (runAt img a)
+unfolding runAt isWholeText
+run-at-within img a = go (isText img a) (leb 24 (word64 img (a + 8))) (leb (a + word64 img (a + 8)) (length img)) refl refl
+  where
+    go : (t u v : Bool) → leb 24 (word64 img (a + 8)) ≡ u → leb (a + word64 img (a + 8)) (length img) ≡ v
+        → Within img (cond (t && u && v) (Part (a + 24) (a + word64 img (a + 8))) NoText)
+    go true true true p q = let h = leb-true 24 (word64 img (a + 8)) p in (omega arith, leb-true _ _ q)
+    go true true false p q = tt
+    go true false v p q = tt
+    go false u v p q = tt
+
+pub run-within : (img : List ℕ) (link : ℕ) → Within img (runOf img link)
+unfolding runOf
+run-within img link = go (not (eqb link 0) && inside img link) (run-at-within img link)
+  where
+    go : (b : Bool) → Within img (runAt img link) → Within img (cond b (runAt img link) NoText)
+    go true h = h
+    go false h = tt
 
 pub text-within : (img : List ℕ) (link : ℕ) → Within img (textOf img link)
 unfolding textOf
-text-within img link = go (not (eqb link 0) && inside img link) (text-at-within img link)
+text-within img link = go (runOf img link) (run-within img link)
   where
-    go : (b : Bool) → Within img (textAt img link) → Within img (cond b (textAt img link) NoText)
-    go true h = h
-    go false h = tt
+    go : (t : Text) → Within img t → Within img (cutOff img t)
+    go (Part from to) h = (omega arith, omega (arith, h .0, h .1, bytes-short img from to))
+    go NoText h = tt

@@ -14,20 +14,30 @@ unfoldable pub untilZero : List ℕ → List ℕ
 untilZero [] = []
 untilZero (b ∷ bs) = cond (eqb b 0) [] (b ∷ untilZero bs)
 
--- from byte 24 to the first zero byte, or to the block length
-unfoldable pub textBytes : List ℕ → ℕ → List ℕ
-textBytes img a = untilZero (take (word64 img (a + 8) - 24) (drop (a + 24) img))
-
 -- the block at a, whose header lies in the image, is a text block; its length is not under 24 and does not pass the image end
 unfoldable pub isWholeText : List ℕ → ℕ → Bool
 isWholeText img a = isText img a && leb 24 (word64 img (a + 8)) && leb (a + word64 img (a + 8)) (length img)
 
-unfoldable pub textAt : List ℕ → ℕ → Text
-textAt img a = cond (isWholeText img a) (Part (a + 24) (a + 24 + length (textBytes img a))) NoText
+-- where its text may run: from byte 24 to the block length
+unfoldable pub runAt : List ℕ → ℕ → Text
+runAt img a = cond (isWholeText img a) (Part (a + 24) (a + word64 img (a + 8))) NoText
 
--- the text that a link leads to: zero is NIL and leads to no block
+-- where the text that a link leads to may run: zero is NIL and leads to no block
+unfoldable pub runOf : List ℕ → ℕ → Text
+runOf img link = cond (not (eqb link 0) && inside img link) (runAt img link) NoText
+
+-- the text of a run: to the first zero byte, or to the run's end
+unfoldable pub textBytes : List ℕ → ℕ → ℕ → List ℕ
+textBytes img from to = untilZero (take (to - from) (drop from img))
+
+-- a run, cut off where its text ends
+abbrev pub cutOff : List ℕ → Text → Text
+cutOff img (Part from to) = Part from (from + length (textBytes img from to))
+cutOff img NoText = NoText
+
+-- the text that a link leads to
 unfoldable pub textOf : List ℕ → ℕ → Text
-textOf img link = cond (not (eqb link 0) && inside img link) (textAt img link) NoText
+textOf img link = cutOff img (runOf img link)
 
 -- the bytes of the image that an answer shows
 abbrev pub shown : List ℕ → Text → List ℕ

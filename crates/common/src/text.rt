@@ -1,9 +1,12 @@
 // The text of a text block, found as a part of the image. Carries over `read_string_block` of common.rs, and text_block.rs.
+//
+// Where a text may run is told by its block's header. Its end, the first zero byte, is looked for only where the text itself is needed: a file can
+// lead to one long text from many places.
 use crate::header::Header;
 ghost use mathlib.Core.Path.{_≡_};
-ghost use Prim.Native.Nat.{_+_, _-_, _≤_};
-ghost use lib.ListN.{length, take, drop};
-ghost use Rattle.common.specs.Text.{textOf, textAt, untilZero};
+ghost use Prim.Native.Nat.{_+_, _≤_};
+ghost use lib.ListN.{length};
+ghost use Rattle.common.specs.Text.{runAt, runOf, textBytes, textOf};
 
 // Where a text stands in the image: from the first place up to the second, which is not its own any more.
 pub enum Text {
@@ -11,25 +14,10 @@ pub enum Text {
     NoText,
 }
 
-// The first zero byte from `from` on, or `to`.
-fn text_end(image: &[u8], from: usize, to: usize) -> usize
-    requires { ⌜ (from ≤ to) × (to ≤ length (now image)) ⌝ }
-    ensures { λ r. ⌜ r ≡ from + length (untilZero (take (to - from) (drop from (now (image .entry))))) ⌝ }
-{
-    let mut i = from;
-    while i < to {
-        if image[i] == 0 {
-            return i;
-        }
-        i += 1;
-    }
-    i
-}
-
-// The text of the block at `at`, whose header lies in the image.
-fn text_at(image: &[u8], at: usize) -> Text
+// Where the text of the block at `at`, whose header lies in the image, may run.
+fn run_at(image: &[u8], at: usize) -> Text
     requires { ⌜ at + 24 ≤ length (now image) ⌝ }
-    ensures { λ r. ⌜ r ≡ textAt (now (image .entry)) at ⌝ }
+    ensures { λ r. ⌜ r ≡ runAt (now (image .entry)) at ⌝ }
 {
     let head = Header::read(image, at);
     if head.id != Header::TEXT {
@@ -43,19 +31,44 @@ fn text_at(image: &[u8], at: usize) -> Text
     }
     let from = at + Header::SIZE;
     let to = at + (head.length as usize);
-    Text::Part(from, text_end(image, from, to))
+    Text::Part(from, to)
+}
+
+// Where the text that a link leads to may run: up to its block's length. No byte of the text is looked at.
+pub fn run_of(image: &[u8], link: u64) -> Text
+    ensures { λ r. ⌜ r ≡ runOf (now (image .entry)) link ⌝ }
+{
+    if link == 0 {
+        return Text::NoText;
+    }
+    if Header::is_inside(image, link) {
+        run_at(image, link as usize)
+    } else {
+        Text::NoText
+    }
+}
+
+// The end of the text that runs from `from` on: its first zero byte, or `to`.
+pub fn text_end(image: &[u8], from: usize, to: usize) -> usize
+    requires { ⌜ (from ≤ to) × (to ≤ length (now image)) ⌝ }
+    ensures { λ r. ⌜ r ≡ from + length (textBytes (now (image .entry)) from to) ⌝ }
+{
+    let mut i = from;
+    while i < to {
+        if image[i] == 0 {
+            return i;
+        }
+        i += 1;
+    }
+    i
 }
 
 // The text that a link leads to.
 pub fn text_of(image: &[u8], link: u64) -> Text
     ensures { λ r. ⌜ r ≡ textOf (now (image .entry)) link ⌝ }
 {
-    if link == 0 {
-        return Text::NoText;
-    }
-    if Header::is_inside(image, link) {
-        text_at(image, link as usize)
-    } else {
-        Text::NoText
+    match run_of(image, link) {
+        Text::Part(from, to) => Text::Part(from, text_end(image, from, to)),
+        Text::NoText => Text::NoText,
     }
 }

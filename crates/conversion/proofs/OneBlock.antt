@@ -8,6 +8,7 @@ use native.Mathlib.Omega.{arith}
 use lib.Bits.{bitAnd}
 use lib.ListN.{length, getD, take, length-append}
 use Rattle.blocks.specs.Place.{references}
+use Rattle.blocks.specs.View.{viewOf}
 use Rattle.blocks.specs.declared.Block.{Block}
 use Rattle.leads.specs.Lead.{leadAt}
 use Rattle.leads.specs.declared.lead.Lead.{Lead}
@@ -108,7 +109,7 @@ module _ (nested : ℕ → Value → Ap) (img : List ℕ) (b : Block) (g : ℕ �
       (omega (arith, one, known a v h .0), known a v h .1)
   passed v (choice.Done p) h = (omega arith, fine-plain img p h)
 
-  part-few : (i m : ℕ) (l : Lead) → leadAt img b i ≡ l
+  part-few : (i m : ℕ) (l : Lead) → leadAt img (viewOf b) i ≡ l
       → length (partOf nested img l m .begun) ≤ cond (leadsIn img (getD (references img b) i 0)) (g (getD (references img b) i 0)) 0
   part-few i m (lead.Words from to) e = omega arith
   part-few i m (lead.Nested a) e =
@@ -117,50 +118,50 @@ module _ (nested : ℕ → Value → Ap) (img : List ℕ) (b : Block) (g : ℕ �
   part-few i m lead.Nil e = omega arith
   part-few i m lead.Elsewhere e = omega arith
 
-  part-fine : (i m : ℕ) (l : Lead) → leadAt img b i ≡ l → Fine (partOf nested img l m .says)
+  part-fine : (i m : ℕ) (l : Lead) → leadAt img (viewOf b) i ≡ l → Fine (partOf nested img l m .says)
   part-fine i m (lead.Words from to) e = tt
   part-fine i m (lead.Nested a) e =
       fine-prefixed (label img a) (nested a (Unsigned m) .says) (known a (Unsigned m) (reference-of img b i a e) .1)
   part-fine i m lead.Nil e = tt
   part-fine i m lead.Elsewhere e = tt
 
-  groups-few : (bits n : ℕ) → n ≤ b .links - 4 → length (met (groups nested img b bits n)) ≤ sizes g (leadsIn img) (take n (references img b))
+  groups-few : (bits n : ℕ) → n ≤ b .links - 4 → length (met (groups nested img (viewOf b) bits n)) ≤ sizes g (leadsIn img) (take n (references img b))
   unfolding groups
   groups-few bits zero h = omega arith
   groups-few bits (suc n) h =
-      let m = bitAnd bits (maskAt img b n) in
+      let m = bitAnd bits (maskAt img (viewOf b) n) in
       omega (
         arith,
         groups-few bits n (omega arith),
-        met-more (groups nested img b bits n) (partOf nested img (leadAt img b n) m),
-        part-few n m (leadAt img b n) refl,
+        met-more (groups nested img (viewOf b) bits n) (partOf nested img (leadAt img (viewOf b) n) m),
+        part-few n m (leadAt img (viewOf b) n) refl,
         next-of (leadsIn img) g (references img b) n (omega (arith, reference-count img b)),
       )
 
-  groups-fine : (bits n : ℕ) → FineGroups (groups nested img b bits n)
+  groups-fine : (bits n : ℕ) → FineGroups (groups nested img (viewOf b) bits n)
   unfolding groups
   groups-fine bits zero = tt
   groups-fine bits (suc n) =
-      let m = bitAnd bits (maskAt img b n) in
-      fine-more (groups nested img b bits n) (partOf nested img (leadAt img b n) m) (groups-fine bits n) (part-fine n m (leadAt img b n) refl)
+      let m = bitAnd bits (maskAt img (viewOf b) n) in
+      fine-more (groups nested img (viewOf b) bits n) (partOf nested img (leadAt img (viewOf b) n) m) (groups-fine bits n) (part-fine n m (leadAt img (viewOf b) n) refl)
 
-  bits-few : (bits : ℕ) → length (bitGroups nested img b bits .begun) ≤ all
+  bits-few : (bits : ℕ) → length (bitGroups nested img (viewOf b) bits .begun) ≤ all
   unfolding bitGroups
   bits-few bits =
-      let s = groups nested img b bits (groupCount b) in
+      let s = groups nested img (viewOf b) bits (groupCount (viewOf b)) in
       omega (
         arith,
         ap length (met-gathered s),
-        groups-few bits (groupCount b) (omega arith),
-        first-of (leadsIn img) g (references img b) (groupCount b),
+        groups-few bits (groupCount (viewOf b)) (omega arith),
+        first-of (leadsIn img) g (references img b) (groupCount (viewOf b)),
       )
 
-  bits-fine : (bits : ℕ) → Fine (bitGroups nested img b bits .says)
+  bits-fine : (bits : ℕ) → Fine (bitGroups nested img (viewOf b) bits .says)
   unfolding bitGroups
-  bits-fine bits = fine-gathered (groups nested img b bits (groupCount b)) (groups-fine bits (groupCount b))
+  bits-fine bits = fine-gathered (groups nested img (viewOf b) bits (groupCount (viewOf b))) (groups-fine bits (groupCount (viewOf b)))
 
   pub one-block : (v : Value) (s : Step) → Follows b s → (length (ruled nested img v s .begun) ≤ all) × Fine (ruled nested img v s .says)
-  one-block v (ByKey c) h = rw h (passed v (chosenKey img b (taken v)) (chosen-key img b (taken v)))
-  one-block v (ByRange c) h = rw h (passed v (chosenRange img b (taken v)) (chosen-range img b (taken v)))
+  one-block v (ByKey c) h = rw h (passed v (chosenKey img (viewOf b) (taken v)) (chosen-key img b (taken v)))
+  one-block v (ByRange c) h = rw h (passed v (chosenRange img (viewOf b) (taken v)) (chosen-range img b (taken v)))
   one-block v (ByBits c bits) h = rw (h .0) (bits-few bits, bits-fine bits)
   one-block v (Done p) h = (omega arith, fine-plain img p h)

@@ -5,9 +5,10 @@ use Rattle.words.specs.Words.{word16, word32, word64, words, links, valueAt}
 use lib.Ieee.{ofBits, toBits, ofInt, add, sub, mul, div, le, lt, eq}
 use Rattle.common.specs.Header.{inside, isConversion, isText}
 use Rattle.common.specs.Types.{typeOf}
-use Rattle.common.specs.Text.{untilZero, textBytes, isWholeText, textAt, textOf}
+use Rattle.common.specs.Text.{untilZero, isWholeText, runAt, runOf, textBytes}
 use Rattle.blocks.specs.Block.{fixedAt, fieldsAt, refCount, fieldsPlace, valCount, isRanged, valuesPlace, blockEnd, blockAt, opened, parsed}
-use Rattle.blocks.specs.Place.{wordIn, referenceOf, valueWordOf, valueOf, references}
+use Rattle.blocks.specs.Place.{wordIn, references}
+use Rattle.blocks.specs.View.{seen, referenceIn, valueWordIn, valueIn}
 use Rattle.tree.specs.Images.{bare, twoLinks}
 use Rattle.tree.specs.Walk.{on, classed, walkLinks, walk, answer, checked}
 use Rattle.leads.specs.Lead.{nestedAt, leadOf, leadAt}
@@ -23,5 +24,5 @@ use Rattle.conversion.specs.Entry.{answerIn, outputAfter, settled, apply
 use Rattle.conversion.specs.Cases.{Case, blockOf, block, tx, cases, answered}
 
 pub p-cases : map (λ (c : Case). answered (c .asked)) cases ≡ map (λ (c : Case). c .wanted) cases
-unfolding cases block blockOf tx links bare twoLinks applying settled answerIn outputAfter applied bitGroups groups joined bar nameAt label stepOf lastReference keySearch firstKey rangeSearch rangeIndex firstRange rangeValue firstTriple holds table scan between linear rational values leadAt leadOf nestedAt checked answer walk walkLinks classed on references valueOf valueWordOf referenceOf wordIn parsed opened blockAt blockEnd valuesPlace isRanged valCount fieldsPlace refCount fieldsAt fixedAt textOf textAt isWholeText textBytes untilZero typeOf inside isConversion isText words valueAt word64 word32 word16 ofBits toBits ofInt add sub mul div le lt eq
+unfolding cases block blockOf tx links bare twoLinks applying settled answerIn outputAfter applied bitGroups groups joined bar nameAt label stepOf lastReference keySearch firstKey rangeSearch rangeIndex firstRange rangeValue firstTriple holds table scan between linear rational values leadAt leadOf nestedAt checked answer walk walkLinks classed on references valueIn valueWordIn referenceIn wordIn seen parsed opened blockAt blockEnd valuesPlace isRanged valCount fieldsPlace refCount fieldsAt fixedAt runOf runAt isWholeText textBytes untilZero typeOf inside isConversion isText words valueAt word64 word32 word16 ofBits toBits ofInt add sub mul div le lt eq
 p-cases = refl

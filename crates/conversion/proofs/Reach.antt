@@ -7,6 +7,7 @@ use native.Mathlib.Omega.{arith}
 use lib.ListN.{length}
 use Rattle.blocks.specs.Block.{blockAt}
 use Rattle.blocks.specs.Place.{references}
+use Rattle.blocks.specs.View.{viewOf}
 use Rattle.blocks.specs.declared.Block.{Block}
 use Rattle.rules.specs.Numbers.{taken}
 use Rattle.rules.specs.declared.number.Value.{Value}
@@ -65,9 +66,9 @@ module _ (nested : ℕ → Value → Ap) (img : List ℕ) (b : Block) (d : ℕ)
   ruled-shallow : (v : Value) (s : Step) → Follows b s → (b .kind ≡ 11 → ⊥) → NoGroups img (ruled nested img v s .begun)
       → length (ruled nested img v s .begun) ≤ d
   ruled-shallow v (ByKey c) h other none =
-      rw h (passed-shallow v (chosenKey img b (taken v)) (chosen-key img b (taken v)) (rw h at none))
+      rw h (passed-shallow v (chosenKey img (viewOf b) (taken v)) (chosen-key img b (taken v)) (rw h at none))
   ruled-shallow v (ByRange c) h other none =
-      rw h (passed-shallow v (chosenRange img b (taken v)) (chosen-range img b (taken v)) (rw h at none))
+      rw h (passed-shallow v (chosenRange img (viewOf b) (taken v)) (chosen-range img b (taken v)) (rw h at none))
   ruled-shallow v (ByBits c bits) h other none = absurd (other (h .1))
   ruled-shallow v (Done p) h other none = omega arith
 

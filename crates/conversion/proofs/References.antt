@@ -11,12 +11,13 @@ use lib.ListN.{length, getD, take}
 use Rattle.words.specs.Words.{word64, words}
 use Rattle.words.proofs.Slices.{length-words}
 use Rattle.common.specs.Header.{inside, isConversion}
-use Rattle.common.specs.Text.{textOf}
+use Rattle.common.specs.Text.{runOf}
 use Rattle.common.specs.declared.text.Text.{Text}
 use Rattle.common.specs.declared.text.Text.the-variants.{Part, NoText}
 use Rattle.common.specs.declared.refusal.Word.{Word}
 use Rattle.common.specs.declared.refusal.Word.the-variants.{Bits, NoWord}
-use Rattle.blocks.specs.Place.{wordIn, referenceOf, references}
+use Rattle.blocks.specs.Place.{wordIn, references}
+use Rattle.blocks.specs.View.{viewOf, referenceIn}
 use Rattle.blocks.specs.declared.Block.{Block}
 use Rattle.leads.specs.Lead.{nestedAt, leadOf, leadAt, byText, byLink}
 use Rattle.leads.specs.declared.lead.Lead.the-variants.{Nested, Nil, Elsewhere}
@@ -43,7 +44,7 @@ word-bits img first count i w = go (ltb i count) (leb (first + 8 * i + 8) (lengt
 
 nested-link : (img : List ℕ) (link a : ℕ) → leadOf img link ≡ Nested a → (link ≡ a) × (leadsIn img link ≡ true)
 unfolding leadOf nestedAt leadsIn
-nested-link img link a = go (eqb link 0) (textOf img link) (inside img link) (isConversion img link)
+nested-link img link a = go (eqb link 0) (runOf img link) (inside img link) (isConversion img link)
   where
     go : (z : Bool) (t : Text) (x y : Bool) → cond z Nil (byText t (cond x (cond y (Nested link) Elsewhere) Elsewhere)) ≡ Nested a
         → (link ≡ a) × (cond z false (cond x y false) ≡ true)
@@ -54,10 +55,10 @@ nested-link img link a = go (eqb link 0) (textOf img link) (inside img link) (is
     go false NoText false y p = let z : _≡_ {A = ℕ} 0 1 = cc in absurd (omega arith)
 
 -- a lead to a nested block a comes of the i-th reference, which is a and leads to a block of the tree
-pub nested-lead : (img : List ℕ) (b : Block) (i a : ℕ) → leadAt img b i ≡ Nested a
+pub nested-lead : (img : List ℕ) (b : Block) (i a : ℕ) → leadAt img (viewOf b) i ≡ Nested a
     → (i < b .links - 4) × (getD (references img b) i 0 ≡ a) × (leadsIn img a ≡ true)
-unfolding leadAt referenceOf references
-nested-lead img b i a = go (referenceOf img b i) refl
+unfolding leadAt referenceIn references
+nested-lead img b i a = go (referenceIn img (viewOf b) i) refl
   where
     go : (w : Word) → wordIn img (b .firstref) (b .links - 4) i ≡ w → byLink img w ≡ Nested a
         → (i < b .links - 4) × (getD (words img (b .firstref) (b .links - 4)) i 0 ≡ a) × (leadsIn img a ≡ true)
@@ -78,7 +79,7 @@ pub record Reference (img : List ℕ) (b : Block) (a : ℕ) : Type 0 where
   pub there : getD (references img b) index 0 ≡ a
   pub leads : leadsIn img a ≡ true
 
-pub reference-of : (img : List ℕ) (b : Block) (i a : ℕ) → leadAt img b i ≡ Nested a → Reference img b a
+pub reference-of : (img : List ℕ) (b : Block) (i a : ℕ) → leadAt img (viewOf b) i ≡ Nested a → Reference img b a
 reference-of img b i a p =
     let n = nested-lead img b i a p in
     record { index = i; early = omega (arith, n .0, reference-count img b); there = n .1; leads = n .2 }

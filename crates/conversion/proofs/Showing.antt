@@ -2,15 +2,13 @@
 use mathlib.Core.Path.{_≡_, sym, ap, subst, _∙_}
 use mathlib.Core.Bool.{Bool, cond}
 use mathlib.Core.List.{List}
-use Prim.Native.Nat.{ℕ, _-_, _≤_}
+use Prim.Native.Nat.{ℕ}
 use native.Mathlib.Omega.{arith}
 use borrow.Author.Tests.{eq-eqb, ne-eqb}
-use lib.ListN as ListN
-use Rattle.common.specs.declared.refusal.Refusal.{Refusal}
-use Rattle.blocks.specs.Block.{refCount, fieldsPlace, valuesPlace, blockEnd, blockAt, parsed}
-use Rattle.blocks.specs.declared.Block.{Block}
-use Rattle.blocks.specs.declared.Parsed.the-variants.{Whole, Refused}
-use Rattle.blocks.proofs.Opening.{parsed-whole}
+use Rattle.common.proofs.Texts.{bytes-short}
+use Rattle.blocks.specs.View.{seen}
+use Rattle.blocks.specs.declared.view.View.{View}
+use Rattle.blocks.specs.declared.view.Seen.the-variants.{Open, Cut}
 use Rattle.leads.specs.Keys.{translated}
 use Rattle.leads.specs.Lead.{Inside}
 use Rattle.leads.specs.declared.lead.Lead.{Lead}
@@ -19,37 +17,33 @@ use Rattle.leads.proofs.Leads.{lead-at-inside}
 use Rattle.conversion.specs.Shown.{ofLead, ofBlock, Within}
 use Rattle.conversion.specs.declared.shown.Shown.the-variants.{Question}
 
-within : (img : List ℕ) (l : Lead) → Inside img l → Within img (ofLead l)
-within img (Words from to) h = h
+within : (img : List ℕ) (l : Lead) → Inside img l → Within img (ofLead img l)
+within img (Words from to) h = (omega arith, omega (arith, h .0, h .1, bytes-short img from to))
 within img (Nested a) h = tt
 within img Nil h = tt
 within img Elsewhere h = tt
 
--- a parsed block has no more references than the image has bytes
-pub few-references : (img : List ℕ) (a : ℕ) (b : Block) → parsed img a ≡ Whole b → b .links - 4 ≤ ListN.length img
-unfolding blockAt blockEnd valuesPlace fieldsPlace refCount
-few-references img a b whole =
-    let w = parsed-whole img a b whole in
-    let fits = w .fits in
-    rw (w .same) (omega arith)
-
 module _ (img question : List ℕ) (a : ℕ) where
-  pub shown-refused : (r : Refusal) → parsed img a ≡ Refused r → Question ≡ ofBlock img question (parsed img a)
-  shown-refused r e = sym (ap (ofBlock img question) e)
+  pub shown-cut : seen img a ≡ Cut → Question ≡ ofBlock img question (seen img a)
+  shown-cut e = sym (ap (ofBlock img question) e)
 
-  module _ (b : Block) (whole : parsed img a ≡ Whole b) where
-    pub shown-other : (b .kind ≡ 10 → ⊥) → Question ≡ ofBlock img question (parsed img a)
+  module _ (b : View) (whole : seen img a ≡ Open b) where
+    pub shown-other : (b .kind ≡ 10 → ⊥) → Question ≡ ofBlock img question (seen img a)
     shown-other h =
-        sym (ap (ofBlock img question) whole ∙ ap (λ (x : Bool). cond x (ofLead (translated img b question)) Question) (ne-eqb (b .kind) 10 h))
+        sym (ap (ofBlock img question) whole ∙ ap (λ (x : Bool). cond x (ofLead img (translated img b question)) Question) (ne-eqb (b .kind) 10 h))
+
+    -- where the chosen lead goes
+    pub lead-within : (l : Lead) → translated img b question ≡ l → Inside img l
+    unfolding translated
+    lead-within l leads = subst (Inside img) leads (lead-at-inside img b _)
 
     -- of a root of type 10 the lead decides, and its part lies in the image
     pub shown-ten : (l : Lead) → b .kind ≡ 10 → translated img b question ≡ l
-        → (ofLead l ≡ ofBlock img question (parsed img a)) × Within img (ofLead l)
-    unfolding translated
+        → (ofLead img l ≡ ofBlock img question (seen img a)) × Within img (ofLead img l)
     shown-ten l ten leads = (
       sym
           (ap (ofBlock img question) whole
-          ∙ ap (λ (x : Bool). cond x (ofLead (translated img b question)) Question) (eq-eqb (b .kind) 10 ten)
-          ∙ ap ofLead leads),
-      within img l (subst (Inside img) leads (lead-at-inside img b _)),
+          ∙ ap (λ (x : Bool). cond x (ofLead img (translated img b question)) Question) (eq-eqb (b .kind) 10 ten)
+          ∙ ap (ofLead img) leads),
+      within img l (lead-within l leads),
     )

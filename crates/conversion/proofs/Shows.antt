@@ -3,13 +3,13 @@ use mathlib.Core.Path.{_≡_, refl, sym, ap, _∙_}
 use mathlib.Core.Logic.{_⊎_, inl, inr}
 use mathlib.Core.List.{List}
 use Prim.Native.Nat.{ℕ, suc}
-use borrow.Author.Tests.{le-leb}
-use Rattle.common.specs.Header.{inside}
 use Rattle.common.specs.Types.{typeOf}
-use Rattle.blocks.specs.Block.{opened, blockAt, parsed}
+use Rattle.blocks.specs.Block.{opened, blockAt}
+use Rattle.blocks.specs.View.{viewOf, seenOf, seen}
 use Rattle.blocks.specs.declared.Parsed.{Parsed}
 use Rattle.blocks.specs.declared.Parsed.the-variants.{Whole}
-use Rattle.blocks.proofs.Opening.{parsed-conversion}
+use Rattle.blocks.specs.declared.view.Seen.the-variants.{Open}
+use Rattle.common.proofs.Texts.{text-shown}
 use Rattle.leads.specs.Keys.{translated}
 use Rattle.leads.specs.declared.lead.Lead.{Lead}
 use Rattle.leads.specs.declared.lead.Lead.the-variants.{Words, Nested, Nil, Elsewhere}
@@ -31,18 +31,18 @@ abbrev Agree : List ℕ → Answer → List ℕ → Type 0
 Agree question x shown =
     ((s : List ℕ) → x ≡ text s → shown ≡ s) × (x ≡ unchanged → shown ≡ question) × ((x ≡ text shown) ⊎ (x ≡ unchanged))
 
-agree : (img question : List ℕ) (l : Lead) → Agree question (answerOf img (orUnchanged l)) (showing img question (ofLead l))
-agree img question (Words from to) = ((λ s e. cc), (λ e. cc), inl refl)
+agree : (img question : List ℕ) (l : Lead) → Agree question (answerOf img (orUnchanged l)) (showing img question (ofLead img l))
+agree img question (Words from to) = ((λ s e. text-shown img from to ∙ cc), (λ e. cc), inl (ap text (sym (text-shown img from to))))
 agree img question (Nested a) = ((λ s e. cc), (λ e. refl), inr refl)
 agree img question Nil = ((λ s e. cc), (λ e. refl), inr refl)
 agree img question Elsewhere = ((λ s e. cc), (λ e. refl), inr refl)
 
 answers : (d : ℕ) (mode : Mode) (img question : List ℕ) (a : ℕ) → opened img a ≡ Whole (blockAt img a) → blockAt img a .kind ≡ 10
-    → applied (suc d) mode img question a Text .says ≡ answerOf img (orUnchanged (translated img (blockAt img a) question))
-unfolding applied stepOf typeOf
+    → applied (suc d) mode img question a Text .says ≡ answerOf img (orUnchanged (translated img (viewOf (blockAt img a)) question))
+unfolding applied stepOf seen typeOf
 answers d mode img question a whole ten =
-    ap (λ (p : Parsed). ruled (applied d mode img question) img Text (unlessCut mode img question Text p) .says) whole
-    ∙ ap (λ (k : ℕ). ruled (applied d mode img question) img Text (typed mode img question (blockAt img a) Text (typeOf k)) .says) ten
+    ap (λ (p : Parsed). ruled (applied d mode img question) img Text (unlessCut mode img question Text (seenOf p)) .says) whole
+    ∙ ap (λ (k : ℕ). ruled (applied d mode img question) img Text (typed mode img question (viewOf (blockAt img a)) Text (typeOf k)) .says) ten
 
 -- after an accepted check of a root of type 10: where applying answers a text, that text is shown, where it answers Unchanged, the question; and its
 -- answer is one of the two
@@ -51,13 +51,12 @@ pub shows : (mode : Mode) (img question : List ℕ) (a l n : ℕ) → checked im
     × (applied 21 mode img question a Text .says ≡ unchanged → showing img question (shownFor img a l question) ≡ question)
     × ((applied 21 mode img question a Text .says ≡ text (showing img question (shownFor img a l question)))
     ⊎ (applied 21 mode img question a Text .says ≡ unchanged))
-unfolding Sound shownFor inside
+unfolding Sound shownFor seen
 shows mode img question a l n e ten =
     let k = acceptance img a l n e in
     let whole = k .sound .0 in
-    let root : parsed img a ≡ Whole (blockAt img a) =
-    parsed-conversion img a (le-leb _ _ (k .header)) (k .conversion) ∙ whole in
+    let root : seen img a ≡ Open (viewOf (blockAt img a)) = ap seenOf whole in
     let said = answers 20 mode img question a whole ten in
-    let shown : shownFor img a l question ≡ ofLead (translated img (blockAt img a) question) =
-    ap (λ (c : Checked). ofCheck c (ofBlock img question (parsed img a))) e ∙ sym (shown-ten img question a (blockAt img a) root _ ten refl .0) in
-    rw (shown, said) (agree img question (translated img (blockAt img a) question))
+    let shown : shownFor img a l question ≡ ofLead img (translated img (viewOf (blockAt img a)) question) =
+    ap (λ (c : Checked). ofCheck c (ofBlock img question (seen img a))) e ∙ sym (shown-ten img question a (viewOf (blockAt img a)) root _ ten refl .0) in
+    rw (shown, said) (agree img question (translated img (viewOf (blockAt img a)) question))

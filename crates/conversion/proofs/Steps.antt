@@ -13,8 +13,9 @@ use Rattle.common.specs.declared.refusal.Word.{Word}
 use Rattle.common.specs.declared.refusal.Word.the-variants.{Bits, NoWord}
 use Rattle.common.proofs.TypeNumbers.{type-number}
 use Rattle.blocks.specs.Block.{opened}
-use Rattle.blocks.specs.Place.{valueOf}
+use Rattle.blocks.specs.View.{viewOf, seenOf, seen, valueIn}
 use Rattle.blocks.specs.declared.Block.{Block}
+use Rattle.blocks.specs.declared.view.View.{View}
 use Rattle.blocks.specs.declared.Parsed.{Parsed}
 use Rattle.blocks.specs.declared.Parsed.the-variants.{Whole}
 use Rattle.blocks.specs.declared.Number.{Number as Found}
@@ -58,9 +59,9 @@ Sane plain.Broken = ⊥
 -- ---- the step
 -- a step goes on with the block b itself, by bits only where it has type 11
 abbrev pub Follows : Block → Step → Type 0
-Follows b (ByKey c) = c ≡ b
-Follows b (ByRange c) = c ≡ b
-Follows b (ByBits c bits) = (c ≡ b) × (b .kind ≡ 11)
+Follows b (ByKey c) = c ≡ viewOf b
+Follows b (ByRange c) = c ≡ viewOf b
+Follows b (ByBits c bits) = (c ≡ viewOf b) × (b .kind ≡ 11)
 Follows b (Done p) = Sane p
 
 sane-numbered : (k : ConversionType) (vs : List Float) (x : Taken) → Sane (numbered k vs x)
@@ -83,8 +84,8 @@ sane-number : (x : Found) → Sane (orUnknown x)
 sane-number (value x) = tt
 sane-number NoValue = tt
 
-sane-value : (img : List ℕ) (b : Block) (t : List ℕ) (is : Bool) → Sane (textToValue img b t is)
-sane-value img b t true = sane-number (valueOf img b (valueKey img b t))
+sane-value : (img : List ℕ) (b : View) (t : List ℕ) (is : Bool) → Sane (textToValue img b t is)
+sane-value img b t true = sane-number (valueIn img b (valueKey img b t))
 sane-value img b t false = tt
 
 sane-lead : (l : Lead) → Sane (orUnchanged l)
@@ -93,17 +94,17 @@ sane-lead (lead.Nested a) = tt
 sane-lead lead.Nil = tt
 sane-lead lead.Elsewhere = tt
 
-sane-text : (img : List ℕ) (b : Block) (t : List ℕ) (is : Bool) → Sane (textToText img b t is)
+sane-text : (img : List ℕ) (b : View) (t : List ℕ) (is : Bool) → Sane (textToText img b t is)
 sane-text img b t true = sane-lead (translated img b t)
 sane-text img b t false = tt
 
-follows-bits : (e : Edition) (b : Block) (w : Word) → b .kind ≡ 11 → Follows b (groupedIn e b w)
+follows-bits : (e : Edition) (b : Block) (w : Word) → b .kind ≡ 11 → Follows b (groupedIn e (viewOf b) w)
 follows-bits Mdf410 b w h = tt
 follows-bits Mdf420 b (Bits bits) h = (refl, h)
 follows-bits Mdf420 b NoWord h = tt
 
 module _ (mode : Mode) (img t : List ℕ) (b : Block) (v : Value) where
-  by-type : (k : ConversionType) → b .kind ≡ numberOfType k → Follows b (typed mode img t b v k)
+  by-type : (k : ConversionType) → b .kind ≡ numberOfType k → Follows b (typed mode img t (viewOf b) v k)
   by-type kind.Identity h = sane-numbered kind.Identity _ (taken v)
   by-type kind.Linear h = sane-numbered kind.Linear _ (taken v)
   by-type kind.Rational h = sane-numbered kind.Rational _ (taken v)
@@ -113,15 +114,15 @@ module _ (mode : Mode) (img t : List ℕ) (b : Block) (v : Value) where
   by-type kind.RangeToValue h = sane-numbered kind.RangeToValue _ (taken v)
   by-type kind.ValueToText h = refl
   by-type kind.RangeToText h = refl
-  by-type kind.TextToValue h = sane-value img b t (isText v)
-  by-type kind.TextToText h = sane-text img b t (isText v)
+  by-type kind.TextToValue h = sane-value img (viewOf b) t (isText v)
+  by-type kind.TextToText h = sane-text img (viewOf b) t (isText v)
   by-type kind.BitGroups h = follows-bits (mode .edition) b (bitsOf mode v) h
   by-type (kind.Unknown n) h = sane-numbered (kind.Unknown n) _ (taken v)
 
   pub step-follows : (a : ℕ) → opened img a ≡ Whole b → Follows b (stepOf mode img t a v)
-  unfolding stepOf
+  unfolding stepOf seen
   step-follows a e =
-      subst (λ (p : Parsed). Follows b (unlessCut mode img t v p)) (sym e) (by-type (typeOf (b .kind)) (sym (type-number (b .kind))))
+      subst (λ (p : Parsed). Follows b (unlessCut mode img t v (seenOf p))) (sym e) (by-type (typeOf (b .kind)) (sym (type-number (b .kind))))
 
 -- ---- the choice of types 7 and 8
 module _ (img : List ℕ) (b : Block) where
@@ -130,46 +131,46 @@ module _ (img : List ℕ) (b : Block) where
   Chosen (choice.Nested a) = Reference img b a
   Chosen (choice.Done p) = Sane p
 
-  chosen-lead : (i : ℕ) (l : Lead) → leadAt img b i ≡ l → Chosen (ifConversion l)
+  chosen-lead : (i : ℕ) (l : Lead) → leadAt img (viewOf b) i ≡ l → Chosen (ifConversion l)
   chosen-lead i (lead.Words from to) e = tt
   chosen-lead i (lead.Nested a) e = reference-of img b i a e
   chosen-lead i lead.Nil e = tt
   chosen-lead i lead.Elsewhere e = tt
 
-  chosen-last : Chosen (lastReference img b)
+  chosen-last : Chosen (lastReference img (viewOf b))
   unfolding lastReference
-  chosen-last = go (ltb 2 (b .links - 4))
+  chosen-last = go (ltb 2 (viewOf b .refs))
     where
-      go : (x : Bool) → Chosen (cond x (ifConversion (leadAt img b (b .links - 4 - 1))) (choice.Done plain.Unchanged))
-      go true = chosen-lead (b .links - 4 - 1) (leadAt img b (b .links - 4 - 1)) refl
+      go : (x : Bool) → Chosen (cond x (ifConversion (leadAt img (viewOf b) (viewOf b .refs - 1))) (choice.Done plain.Unchanged))
+      go true = chosen-lead (viewOf b .refs - 1) (leadAt img (viewOf b) (viewOf b .refs - 1)) refl
       go false = tt
 
-  chosen-default : (has : Bool) → Chosen (defaultOf img b has)
+  chosen-default : (has : Bool) → Chosen (defaultOf img (viewOf b) has)
   chosen-default true = chosen-last
   chosen-default false = tt
 
-  chosen-decided : (i : ℕ) (l : Lead) → leadAt img b i ≡ l → (matched : Bool) (c : Choice) → Chosen c → Chosen (decided l matched c)
+  chosen-decided : (i : ℕ) (l : Lead) → leadAt img (viewOf b) i ≡ l → (matched : Bool) (c : Choice) → Chosen c → Chosen (decided l matched c)
   chosen-decided i (lead.Words from to) e matched c h = tt
   chosen-decided i (lead.Nested a) e matched c h = reference-of img b i a e
   chosen-decided i lead.Nil e true c h = tt
   chosen-decided i lead.Nil e false c h = h
   chosen-decided i lead.Elsewhere e matched c h = h
 
-  chosen-followed : (s : Searched) (has : Bool) → Chosen (followed img b s has)
-  chosen-followed (Matched i) has = chosen-decided i (leadAt img b i) refl true (defaultOf img b has) (chosen-default has)
-  chosen-followed (Unmatched i) has = chosen-decided i (leadAt img b i) refl false (defaultOf img b has) (chosen-default has)
+  chosen-followed : (s : Searched) (has : Bool) → Chosen (followed img (viewOf b) s has)
+  chosen-followed (Matched i) has = chosen-decided i (leadAt img (viewOf b) i) refl true (defaultOf img (viewOf b) has) (chosen-default has)
+  chosen-followed (Unmatched i) has = chosen-decided i (leadAt img (viewOf b) i) refl false (defaultOf img (viewOf b) has) (chosen-default has)
 
-  pub chosen-key : (x : Taken) → Chosen (chosenKey img b x)
+  pub chosen-key : (x : Taken) → Chosen (chosenKey img (viewOf b) x)
   chosen-key (took.Number x whole) = chosen-followed (keySearch (values img (b .firstval) (b .valcount)) x) false
   chosen-key took.NoNumber = tt
 
-  pub chosen-range : (x : Taken) → Chosen (chosenRange img b x)
+  pub chosen-range : (x : Taken) → Chosen (chosenRange img (viewOf b) x)
   chosen-range (took.Number x whole) = chosen-followed (rangeSearch whole (values img (b .firstval) (b .valcount)) x) true
   chosen-range took.NoNumber = tt
 
   -- so a nested block that is chosen is a reference of the block
-  pub key-reference : (x : Taken) (a : ℕ) → chosenKey img b x ≡ choice.Nested a → Reference img b a
+  pub key-reference : (x : Taken) (a : ℕ) → chosenKey img (viewOf b) x ≡ choice.Nested a → Reference img b a
   key-reference x a e = subst Chosen e (chosen-key x)
 
-  pub range-reference : (x : Taken) (a : ℕ) → chosenRange img b x ≡ choice.Nested a → Reference img b a
+  pub range-reference : (x : Taken) (a : ℕ) → chosenRange img (viewOf b) x ≡ choice.Nested a → Reference img b a
   range-reference x a e = subst Chosen e (chosen-range x)

@@ -6,6 +6,8 @@
 use common::refusal::Refusal;
 use common::refusal::Word;
 use engine::apply as apply_block;
+use pieces::paste::copy;
+use pieces::paste::measure;
 use pieces::paste::paste;
 use pieces::said::Said;
 use rules::number::Value;
@@ -13,11 +15,17 @@ use steps::mode::Mode;
 use tree::Checked;
 use tree::check;
 ghost use mathlib.Core.Path.{_≡_};
+ghost use Prim.Native.Nat.{_+_, _≤_};
+ghost use lib.ListN.{length};
+ghost use Rattle.common.specs.Text.{textBytes};
+ghost use Rattle.pieces.specs.Answer as says;
+ghost use Rattle.pieces.specs.Did.{Says, SaidIn};
+ghost use Rattle.pieces.specs.declared.said.Said.the-variants.{Text};
 ghost use Rattle.tree.specs.Walk.{checked as checkedTree};
 ghost use Rattle.tree.specs.declared.Checked.the-variants.{Accepted};
 ghost use Rattle.steps.specs.Mode.{standard};
 ghost use Rattle.engine.specs.Apply.{applied as appliedTo};
-ghost use Rattle.conversion.specs.Laid.{SaidFits, Laid};
+ghost use Rattle.conversion.specs.Laid.{Laid, Answered};
 ghost use Rattle.conversion.specs.Entry.{refusalOf, addressIn, call, settled, applying};
 
 // Document 01's answers.
@@ -59,16 +67,79 @@ pub struct Applied {
     pub applied: u32,
 }
 
-// Copies a text that is said as a part of the image. One that was put together stands in the output already.
-fn lay(image: &[u8], said: Said, out: &mut [u8])
-    requires { ⌜ SaidFits (now image) (now out) said ⌝ }
-    ensures { λ _. ⌜ Laid (now (image .entry)) (now (out .entry)) (now (out .exit)) said ⌝ }
+// A text that runs in the image: it is looked at once, no further than one byte past the room, and then copied if it fits.
+fn lay_run(image: &[u8], from: usize, to: usize, address: u64, out: &mut [u8]) -> Answer
+    requires { ⌜ (from ≤ to) × (to ≤ length (now image)) ⌝ }
+    ensures { λ r. ⌜ Answered address (says.text (textBytes (now (image .entry)) from to)) (now (out .entry)) (now (out .exit)) r ⌝ }
+{
+    let end = measure(image, from, to, out.len(), 0);
+    let size = end - from;
+    if out.len() < size {
+        return Answer::Refused(Refusal::Room);
+    }
+    copy(image, from, end, out, 0, size);
+    Answer::Text(size)
+}
+
+// What a writing pass says of its text: one that was put together stands in the output already.
+fn lay_said(image: &[u8], said: Said, out: &mut [u8], lim: usize)
+    requires { ⌜ (lim ≤ length (now out)) × SaidIn (now image) said ⌝ }
+    ensures { λ _. ⌜ Laid (now (image .entry)) lim (now (out .entry)) (now (out .exit)) said ⌝ }
 {
     match said {
         Said::Words(from, to) => {
-            paste(image, from, to, out, 0, to - from);
+            paste(image, from, to, out, 0, lim);
         }
         _ => {}
+    }
+}
+
+// A text that bit groups put together, measured: a second pass writes it, if it fits.
+fn write_text(
+    mode: Mode,
+    image: &[u8],
+    address: u64,
+    value: Value,
+    text: &[u8],
+    size: usize,
+    out: &mut [u8],
+) -> Answer
+    requires { ⌜ (address + 24 ≤ length (now image))
+        × Says (now image) (length (now out)) 0 (appliedTo 21 mode (now image) (now text) address value .says) (Text size) ⌝ }
+    ensures { λ r. ⌜ Answered address (appliedTo 21 mode (now (image .entry)) (now (text .entry)) address value .says) (now (out .entry)) (now (out .exit)) r ⌝ }
+{
+    if out.len() < size {
+        return Answer::Refused(Refusal::Room);
+    }
+    let x = apply_block(mode, image, address, value, text, 21, out, 0, size);
+    let said = x.said;
+    lay_said(image, said, out, size);
+    Answer::Text(size)
+}
+
+// What the measuring pass has said, as document 01's answer; a text goes to the output.
+fn settle(
+    mode: Mode,
+    image: &[u8],
+    address: u64,
+    value: Value,
+    text: &[u8],
+    said: Said,
+    out: &mut [u8],
+) -> Answer
+    requires { ⌜ (address + 24 ≤ length (now image))
+        × Says (now image) (length (now out)) 0 (appliedTo 21 mode (now image) (now text) address value .says) said ⌝ }
+    ensures { λ r. ⌜ Answered address (appliedTo 21 mode (now (image .entry)) (now (text .entry)) address value .says) (now (out .entry)) (now (out .exit)) r ⌝ }
+{
+    match said {
+        Said::Words(from, to) => lay_run(image, from, to, address, out),
+        Said::Text(size) => write_text(mode, image, address, value, text, size, out),
+        Said::Number(x) => Answer::Number(x),
+        Said::Unchanged => Answer::Unchanged,
+        Said::Unknown => Answer::Unknown,
+        Said::Formula => Answer::Refused(Refusal::Formula),
+        // An accepted check rules this out.
+        Said::Broken => Answer::Refused(Refusal::Short(address)),
     }
 }
 
@@ -88,69 +159,12 @@ fn apply_checked(
         ≡ settled n address (appliedTo 21 mode (now (image .entry)) (now (text .entry)) address value) (now (out .entry)) ⌝ }
 {
     let x = apply_block(mode, image, address, value, text, 21, out, 0, 0);
-    let applied = x.visits;
     let said = x.said;
-    match said {
-        // A part of the image: copied once, with no second pass.
-        Said::Words(from, to) => {
-            let length = to - from;
-            if out.len() < length {
-                return Applied {
-                    answer: Answer::Refused(Refusal::Room),
-                    checked: n,
-                    applied,
-                };
-            }
-            lay(image, said, out);
-            Applied {
-                answer: Answer::Text(length),
-                checked: n,
-                applied,
-            }
-        }
-        Said::Text(e) => {
-            if out.len() < e {
-                return Applied {
-                    answer: Answer::Refused(Refusal::Room),
-                    checked: n,
-                    applied,
-                };
-            }
-            let y = apply_block(mode, image, address, value, text, 21, out, 0, e);
-            let again = y.said;
-            lay(image, again, out);
-            Applied {
-                answer: Answer::Text(e),
-                checked: n,
-                applied,
-            }
-        }
-        Said::Number(y) => Applied {
-            answer: Answer::Number(y),
-            checked: n,
-            applied,
-        },
-        Said::Unchanged => Applied {
-            answer: Answer::Unchanged,
-            checked: n,
-            applied,
-        },
-        Said::Unknown => Applied {
-            answer: Answer::Unknown,
-            checked: n,
-            applied,
-        },
-        Said::Formula => Applied {
-            answer: Answer::Refused(Refusal::Formula),
-            checked: n,
-            applied,
-        },
-        // An accepted check rules this out.
-        Said::Broken => Applied {
-            answer: Answer::Refused(Refusal::Short(address)),
-            checked: n,
-            applied,
-        },
+    let answer = settle(mode, image, address, value, text, said, out);
+    Applied {
+        answer,
+        checked: n,
+        applied: x.visits,
     }
 }
 

@@ -1,13 +1,16 @@
 // The second entry of type 10, with no copying. Carries over `apply_text_to_text` of text.rs, whose answer is a part of the image or the input.
-use blocks::Block;
-use blocks::Parsed;
+use blocks::view::Seen;
+use blocks::view::View;
+use common::text::text_end;
 use leads::keys::translate as translate_block;
 use leads::lead::Lead;
 use tree::Checked;
 use tree::check;
 ghost use mathlib.Core.Path.{_≡_};
-ghost use Rattle.blocks.specs.Block.{parsed};
-ghost use Rattle.conversion.specs.Shown.{ofLead, ofBlock, shownFor, Within, showing};
+ghost use Prim.Native.Nat.{_+_, _≤_};
+ghost use lib.ListN.{length};
+ghost use Rattle.blocks.specs.View.{seen};
+ghost use Rattle.conversion.specs.Shown.{ofBlock, shownFor, Within, showing};
 
 // What is shown: a part of the image, or the question.
 pub enum Shown {
@@ -15,14 +18,16 @@ pub enum Shown {
     Question,
 }
 
+// The root, whose header lies in the image. A text that is chosen is looked at once, to its end.
 fn shown_by(image: &[u8], address: u64, question: &[u8]) -> Shown
-    ensures { λ r. ⌜ (r ≡ ofBlock (now (image .entry)) (now (question .entry)) (parsed (now (image .entry)) address)) × Within (now (image .entry)) r ⌝ }
+    requires { ⌜ address + 24 ≤ length (now image) ⌝ }
+    ensures { λ r. ⌜ (r ≡ ofBlock (now (image .entry)) (now (question .entry)) (seen (now (image .entry)) address)) × Within (now (image .entry)) r ⌝ }
 {
-    match Block::parse(image, address) {
-        Parsed::Whole(b) => {
+    match View::look(image, address as usize) {
+        Seen::Open(b) => {
             if b.kind == 10 {
                 match translate_block(image, b, question) {
-                    Lead::Words(from, to) => Shown::Part(from, to),
+                    Lead::Words(from, to) => Shown::Part(from, text_end(image, from, to)),
                     Lead::Nested(_) => Shown::Question,
                     Lead::Nil => Shown::Question,
                     Lead::Elsewhere => Shown::Question,
@@ -31,7 +36,7 @@ fn shown_by(image: &[u8], address: u64, question: &[u8]) -> Shown
                 Shown::Question
             }
         }
-        Parsed::Refused(_) => Shown::Question,
+        Seen::Cut => Shown::Question,
     }
 }
 

@@ -8,7 +8,7 @@ use native.Mathlib.Numerals.{add-one}
 use native.Mathlib.Omega.{arith}
 use lib.Bits.{bitAnd}
 use lib.ListN.{length, length-append}
-use Rattle.blocks.specs.declared.Block.{Block}
+use Rattle.blocks.specs.declared.view.View.{View}
 use Rattle.leads.specs.Lead.{leadAt}
 use Rattle.leads.specs.declared.lead.Lead.{Lead}
 use Rattle.rules.specs.declared.number.Value.{Value}
@@ -64,13 +64,13 @@ Grown said.Formula G o p pos lim e started m = Halted formula G o p pos lim m
 Grown said.Broken G o p pos lim e started m = Halted broken G o p pos lim m
 
 -- what was put stays where nothing more is
-keep : {o p q t : List ℕ} {pos lim e : ℕ} → lim ≤ 18446744073709551615 → Put o p pos lim t e → Wrote p q e lim [] → Put o q pos lim t e
+keep : {o p q t : List ℕ} {pos lim e : ℕ} → lim ≤ length o → Put o p pos lim t e → Wrote p q e lim [] → Put o q pos lim t e
 keep {t = t} fits x w = record { end = x .end; wrote = rw append-nil at (next _ _ _ _ _ _ t [] fits (x .end) (x .wrote) w) }
 
 both : (vs ws : List ℕ) (m u : ℕ) → m ≡ sat32 (length vs) → u ≡ sat32 (length ws) → sat32 (m + u) ≡ sat32 (length (vs ++ ws))
 both vs ws m u k l = simp length-append (omega arith)
 
-module _ (ps : List (List ℕ)) (vs ws : List ℕ) (m u : ℕ) {o p q : List ℕ} {pos lim e : ℕ} (started : Bool) (fits : lim ≤ 18446744073709551615)
+module _ (ps : List (List ℕ)) (vs ws : List ℕ) (m u : ℕ) {o p q : List ℕ} {pos lim e : ℕ} (started : Bool) (fits : lim ≤ length o)
     (put : Put o p pos lim (joined ps) e) (first : started ≡ some ps) (h : m ≡ sat32 (length vs)) (l : u ≡ sat32 (length ws)) where
   stay : (G : Groups) → G ≡ going ps (vs ++ ws) → Wrote p q e lim [] → Sofar G o q pos lim e started (sat32 (m + u))
   stay G is w = record { parts = ps; begun = vs ++ ws; is = is; first = first; count = both vs ws m u h l; put = keep fits put w }
@@ -79,7 +79,7 @@ module _ (ps : List (List ℕ)) (vs ws : List ℕ) (m u : ℕ) {o p q : List ℕ
   halt x w = record { begun = vs ++ ws; is = refl; count = both vs ws m u h l; wrote = forget (keep fits put w .wrote) }
 
   -- a text, or no part of it
-  grow-text : (img t : List ℕ) (s : Said) → NoWords s → SaysText img e (bar started ++ t) s → Wrote p q e lim (laidText (bar started ++ t) s)
+  grow-text : (img t : List ℕ) (s : Said) → NoWords s → SaysText img (length p) e (bar started ++ t) s → Wrote p q e lim (laidText (bar started ++ t) s)
       → Grown s (going (ps ++ (t ∷ [])) (vs ++ ws)) o q pos lim e started (sat32 (m + u))
   grow-text img t (said.Number x) n k w = absurd k
   grow-text img t (said.Words from to) n k w = absurd n
@@ -96,7 +96,7 @@ module _ (ps : List (List ℕ)) (vs ws : List ℕ) (m u : ℕ) {o p q : List ℕ
   grow-text img t said.Formula n k w = absurd k
   grow-text img t said.Broken n k w = absurd k
 
-  pub grow : (img : List ℕ) (x : Answer) (s : Said) → NoWords s → Says img e (prefixed (bar started) x) s → Wrote p q e lim (laid (prefixed (bar started) x) s)
+  pub grow : (img : List ℕ) (x : Answer) (s : Said) → NoWords s → Says img (length p) e (prefixed (bar started) x) s → Wrote p q e lim (laid (prefixed (bar started) x) s)
       → Grown s (grown ps (vs ++ ws) x) o q pos lim e started (sat32 (m + u))
   grow img (number x) s n says w = rw says (stay _ refl w)
   grow img (text t) s n says w = grow-text img t s n says w
@@ -105,12 +105,12 @@ module _ (ps : List (List ℕ)) (vs ws : List ℕ) (m u : ℕ) {o p q : List ℕ
   grow img formula s n says w = rw says (halt formula w)
   grow img broken s n says w = rw says (halt broken w)
 
-module _ (nested : ℕ → Value → Ap) (img : List ℕ) (b : Block) (bits : ℕ) where
+module _ (nested : ℕ → Value → Ap) (img : List ℕ) (b : View) (bits : ℕ) where
   pub start : (o : List ℕ) (pos lim : ℕ) → Put o o pos lim [] pos → Sofar (groups nested img b bits 0) o o pos lim pos false 0
   unfolding groups joined
   start o pos lim x = record { parts = []; begun = []; is = refl; first = refl; count = refl; put = x }
 
-  pub turn : (i m w : ℕ) (l : Lead) (x : Said) {o p q : List ℕ} {pos lim e k : ℕ} {started : Bool} {y : Outcome} → lim ≤ 18446744073709551615
+  pub turn : (i m w : ℕ) (l : Lead) (x : Said) {o p q : List ℕ} {pos lim e k : ℕ} {started : Bool} {y : Outcome} → lim ≤ length o
       → Sofar (groups nested img b bits i) o p pos lim e started k → l ≡ leadAt img b i → w ≡ maskAt img b i
       → Does img p q e lim (afterBar started (partOf nested img l (bitAnd bits w))) y → NoWords (y .said) → m ≡ sat32 (k + y .visits) → y .said ≡ x
       → Grown x (groups nested img b bits (i + 1)) o q pos lim e started m
@@ -127,7 +127,7 @@ module _ (nested : ℕ → Value → Ap) (img : List ℕ) (b : Block) (bits : �
 
   -- the loop is left: at a stop, or at its end
   pub stop : (i n : ℕ) (x : Answer) {o p : List ℕ} {pos lim m : ℕ} {r : Outcome} → i < n → n ≡ groupCount b → Halted x (groups nested img b bits (i + 1)) o p pos lim m
-      → Says img pos x (r .said) → r .visits ≡ m → laid x (r .said) ≡ [] → Does img o p pos lim (bitGroups nested img b bits) r
+      → Says img (length o) pos x (r .said) → r .visits ≡ m → laid x (r .said) ≡ [] → Does img o p pos lim (bitGroups nested img b bits) r
   unfolding bitGroups
   stop i n x h e at told count none =
       let q : i + 1 + (n - (i + 1)) ≡ n = omega arith in

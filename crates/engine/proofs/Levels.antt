@@ -3,6 +3,7 @@ use mathlib.Core.Path.{_≡_, refl, sym, ap, subst}
 use mathlib.Core.List.{List, _++_, append-assoc}
 use Prim.Native.Nat.{ℕ, zero, suc, _+_, _-_, _≤_}
 use native.Mathlib.Omega.{arith}
+use lib.ListN.{length}
 use Rattle.rules.specs.declared.number.Value.{Value}
 use Rattle.steps.specs.Step.{stepOf}
 use Rattle.steps.specs.declared.mode.Mode.{Mode}
@@ -26,7 +27,7 @@ level (suc d) mode img t a v h =
 pub one-more : {img o p : List ℕ} {pos lim n : ℕ} {x : Answer} {s r : Outcome} → Did img o p pos lim x n s → r .said ≡ s .said → r .visits ≡ sat32 (1 + s .visits)
     → Did img o p pos lim x (suc n) r
 one-more {img} {o} {p} {pos} {lim} {x = x} did said count = record {
-  says = subst (Says img pos x) (sym said) (did .says);
+  says = subst (Says img (length o) pos x) (sym said) (did .says);
   count = omega (arith, count, did .count);
   wrote = subst (λ (s : Said). Wrote o p pos lim (laid x s)) (sym said) (did .wrote);
 }
@@ -41,6 +42,6 @@ two-prefixes p q formula = refl
 two-prefixes p q broken = refl
 
 -- an answer behind "|" and a name
-pub labelled-did : {img o p q : List ℕ} (pre name : List ℕ) {pos lim e n : ℕ} (x : Answer) {r : Outcome} → lim ≤ 18446744073709551615 → NoWords (r .said)
+pub labelled-did : {img o p q : List ℕ} (pre name : List ℕ) {pos lim e n : ℕ} (x : Answer) {r : Outcome} → lim ≤ length o → NoWords (r .said)
     → Put o p pos lim (pre ++ name) e → Did img p q e lim x n r → Did img o q pos lim (prefixed pre (prefixed name x)) n r
 labelled-did pre name x fits plain put did = rw (two-prefixes pre name x) (prefixed-did fits plain put did)

@@ -1,14 +1,15 @@
 -- Applying a conversion to a value (document 01, "Applying"): what is answered, and the blocks begun, by recursion on the levels left. Every rule
 -- takes the nested application as an argument. Assumes nothing: these are definitions.
-use Prim.Native.Nat.{ℕ, zero, suc, _-_, min}
+use Prim.Native.Nat.{ℕ, zero, suc, min}
 use mathlib.Core.Bool.{Bool, true, false}
 use mathlib.Core.List.{List, [], _∷_, _++_}
-use lib.ListN.{length, take, drop}
+use lib.ListN.{length}
 use lib.Bits.{bitAnd}
+use Rattle.common.specs.Text.{textBytes}
 use Rattle.common.specs.declared.refusal.Word.{Word}
 use Rattle.common.specs.declared.refusal.Word.the-variants.{Bits, NoWord}
-use Rattle.blocks.specs.Place.{valueWordOf}
-use Rattle.blocks.specs.declared.Block.{Block}
+use Rattle.blocks.specs.View.{valueWordIn}
+use Rattle.blocks.specs.declared.view.View.{View}
 use Rattle.leads.specs.Lead.{leadAt}
 use Rattle.leads.specs.declared.lead.Lead.{Lead}
 use Rattle.leads.specs.declared.lead.Lead.the-variants as lead
@@ -51,19 +52,19 @@ maskBy (Bits w) = w
 maskBy NoWord = 0
 
 -- the bits of value i
-abbrev pub maskAt : List ℕ → Block → ℕ → ℕ
-maskAt img b i = maskBy (valueWordOf img b i)
+abbrev pub maskAt : List ℕ → View → ℕ → ℕ
+maskAt img b i = maskBy (valueWordIn img b i)
 
 -- i below both counts
-abbrev pub groupCount : Block → ℕ
-groupCount b = min (b .links - 4) (b .valcount)
+abbrev pub groupCount : View → ℕ
+groupCount b = min (b .refs) (b .valcount)
 
 abbrev pub prefixedAp : List ℕ → Ap → Ap
 prefixedAp pre x = record { says = prefixed pre (x .says); begun = x .begun }
 
 -- a direct text is a part whatever the masked value; a conversion is applied to the masked unsigned integer, with name and " = " before its text
 abbrev pub partOf : (ℕ → Value → Ap) → List ℕ → Lead → ℕ → Ap
-partOf nested img (lead.Words from to) masked = quiet (text (take (to - from) (drop from img)))
+partOf nested img (lead.Words from to) masked = quiet (text (textBytes img from to))
 partOf nested img (lead.Nested a) masked = prefixedAp (label img a) (nested a (Unsigned masked))
 partOf nested img lead.Nil masked = quiet unchanged
 partOf nested img lead.Elsewhere masked = quiet unchanged
@@ -87,7 +88,7 @@ more (going ps begun) x = grown ps (begun ++ x .begun) (x .says)
 more (halted x begun) y = halted x begun
 
 -- after the first n groups
-unfoldable pub groups : (ℕ → Value → Ap) → List ℕ → Block → ℕ → ℕ → Groups
+unfoldable pub groups : (ℕ → Value → Ap) → List ℕ → View → ℕ → ℕ → Groups
 groups nested img b bits zero = going [] []
 groups nested img b bits (suc i) = more (groups nested img b bits i) (partOf nested img (leadAt img b i) (bitAnd bits (maskAt img b i)))
 
@@ -101,7 +102,7 @@ abbrev pub gathered : Groups → Ap
 gathered (going ps begun) = record { says = text (joined ps); begun = begun }
 gathered (halted x begun) = record { says = x; begun = begun }
 
-unfoldable pub bitGroups : (ℕ → Value → Ap) → List ℕ → Block → ℕ → Ap
+unfoldable pub bitGroups : (ℕ → Value → Ap) → List ℕ → View → ℕ → Ap
 bitGroups nested img b bits = gathered (groups nested img b bits (groupCount b))
 
 -- ---- one block

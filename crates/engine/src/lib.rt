@@ -2,9 +2,9 @@
 // `bit_groups`, which call `apply` on nested blocks with one level less. Carries over `apply_decoded` of logic.rs, the text rules of text.rs
 // and bitfield.rs.
 //
-// Only bit groups write: a text that is a part of the image is said as that part. They measure and write by the same functions, see crate
-// `pieces`. The engine is total over every image; a block that cannot be opened stops it, which an accepted check rules out.
-use blocks::Block;
+// Only bit groups write: a text that runs in the image is said by where it runs, and its end is not looked for. They measure and write by the same
+// functions, see crate `pieces`. The engine is total over every image; a block that cannot be opened stops it, which an accepted check rules out.
+use blocks::view::View;
 use common::refusal::Word;
 use leads::lead::Lead;
 use leads::lead::lead_at;
@@ -33,16 +33,16 @@ ghost use Rattle.pieces.specs.Did.{NoWords};
 ghost use Rattle.engine.specs.Apply.{maskAt, groupCount, applied, passedOn, partOf, afterBar, bitGroups, Does};
 
 // How many groups a block has: a group has a mask and a reference.
-fn group_count(b: Block) -> u64
+fn group_count(b: View) -> u64
     ensures { λ r. ⌜ r ≡ groupCount b ⌝ }
 {
-    let refs = b.reference_count();
+    let refs = b.refs;
     let values = b.valcount as u64;
     if refs < values { refs } else { values }
 }
 
 // The bits of the i-th value; a value that is not there masks all.
-fn mask_at(image: &[u8], b: Block, i: u64) -> u64
+fn mask_at(image: &[u8], b: View, i: u64) -> u64
     ensures { λ r. ⌜ r ≡ maskAt (now (image .entry)) b i ⌝ }
 {
     match b.value_word(image, i) {
@@ -63,7 +63,7 @@ pub fn apply(
     pos: usize,
     lim: usize,
 ) -> Outcome
-    requires { ⌜ (lim ≤ length (now out)) × (at + 24 ≤ length (now image)) ⌝ }
+    requires { ⌜ (lim ≤ length (now out)) × (pos ≤ length (now out) + 1) × (at + 24 ≤ length (now image)) ⌝ }
     ensures { λ r. ⌜ Does (now (image .entry)) (now (out .entry)) (now (out .exit)) pos lim (applied left mode (now (image .entry)) (now (text .entry)) at v) r ⌝ }
 {
     if left == 0 {
@@ -92,7 +92,7 @@ pub fn apply(
 fn value_to_text(
     mode: Mode,
     image: &[u8],
-    b: Block,
+    b: View,
     v: Value,
     text: &[u8],
     left: u32,
@@ -100,7 +100,7 @@ fn value_to_text(
     pos: usize,
     lim: usize,
 ) -> Outcome
-    requires { ⌜ (lim ≤ length (now out)) × Fits (now image) b ⌝ }
+    requires { ⌜ (lim ≤ length (now out)) × (pos ≤ length (now out) + 1) × Fits (now image) b ⌝ }
     ensures { λ r. ⌜ Does (now (image .entry)) (now (out .entry)) (now (out .exit)) pos lim
         (passedOn (applied left mode (now (image .entry)) (now (text .entry))) (now (image .entry)) v (chosenKey (now (image .entry)) b (taken v))) r ⌝ }
 {
@@ -112,7 +112,7 @@ fn value_to_text(
 fn range_to_text(
     mode: Mode,
     image: &[u8],
-    b: Block,
+    b: View,
     v: Value,
     text: &[u8],
     left: u32,
@@ -120,7 +120,7 @@ fn range_to_text(
     pos: usize,
     lim: usize,
 ) -> Outcome
-    requires { ⌜ (lim ≤ length (now out)) × Fits (now image) b ⌝ }
+    requires { ⌜ (lim ≤ length (now out)) × (pos ≤ length (now out) + 1) × Fits (now image) b ⌝ }
     ensures { λ r. ⌜ Does (now (image .entry)) (now (out .entry)) (now (out .exit)) pos lim
         (passedOn (applied left mode (now (image .entry)) (now (text .entry))) (now (image .entry)) v (chosenRange (now (image .entry)) b (taken v))) r ⌝ }
 {
@@ -140,7 +140,7 @@ fn pass_on(
     pos: usize,
     lim: usize,
 ) -> Outcome
-    requires { ⌜ (lim ≤ length (now out)) × ChoiceIn (now image) c ⌝ }
+    requires { ⌜ (lim ≤ length (now out)) × (pos ≤ length (now out) + 1) × ChoiceIn (now image) c ⌝ }
     ensures { λ r. ⌜ Does (now (image .entry)) (now (out .entry)) (now (out .exit)) pos lim
         (passedOn (applied left mode (now (image .entry)) (now (text .entry))) (now (image .entry)) v c) r ⌝ }
 {
@@ -164,7 +164,7 @@ fn part(
     pos: usize,
     lim: usize,
 ) -> Outcome
-    requires { ⌜ (lim ≤ length (now out)) × Inside (now image) lead ⌝ }
+    requires { ⌜ (lim ≤ length (now out)) × (pos ≤ length (now out) + 1) × Inside (now image) lead ⌝ }
     ensures { λ r. ⌜ Does (now (image .entry)) (now (out .entry)) (now (out .exit)) pos lim
         (afterBar started (partOf (applied left mode (now (image .entry)) (now (text .entry))) (now (image .entry)) lead masked)) r × NoWords (r .said) ⌝ }
 {
@@ -208,7 +208,7 @@ fn part(
 fn bit_groups(
     mode: Mode,
     image: &[u8],
-    b: Block,
+    b: View,
     bits: u64,
     text: &[u8],
     left: u32,
@@ -216,7 +216,7 @@ fn bit_groups(
     pos: usize,
     lim: usize,
 ) -> Outcome
-    requires { ⌜ lim ≤ length (now out) ⌝ }
+    requires { ⌜ (lim ≤ length (now out)) × (pos ≤ length (now out) + 1) ⌝ }
     ensures { λ r. ⌜ Does (now (image .entry)) (now (out .entry)) (now (out .exit)) pos lim
         (bitGroups (applied left mode (now (image .entry)) (now (text .entry))) (now (image .entry)) b bits) r ⌝ }
 {

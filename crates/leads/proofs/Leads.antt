@@ -7,14 +7,14 @@ use native.Mathlib.Omega.{arith}
 use lib.Dec.{eqb}
 use Rattle.common.specs.Header.{inside, isConversion}
 use Rattle.common.proofs.Headers.{inside-fits}
-use Rattle.common.specs.Text.{textOf, Within}
+use Rattle.common.specs.Text.{runOf, Within}
 use Rattle.common.specs.declared.text.Text.{Text}
 use Rattle.common.specs.declared.text.Text.the-variants.{Part, NoText}
 use Rattle.common.specs.declared.refusal.Word.{Word}
 use Rattle.common.specs.declared.refusal.Word.the-variants.{Bits, NoWord}
-use Rattle.common.proofs.Texts.{text-within}
-use Rattle.blocks.specs.Place.{referenceOf}
-use Rattle.blocks.specs.declared.Block.{Block}
+use Rattle.common.proofs.Texts.{run-within}
+use Rattle.blocks.specs.View.{referenceIn}
+use Rattle.blocks.specs.declared.view.View.{View}
 use Rattle.leads.specs.Lead.{nestedAt, leadOf, leadAt, byText, byLink, Inside}
 use Rattle.leads.specs.Keys.{isText, firstText}
 use Rattle.leads.specs.declared.lead.Lead.the-variants.{Nested, Nil, Elsewhere}
@@ -30,23 +30,23 @@ nested-inside img link = go (inside img link) (isConversion img link) refl
 
 lead-inside : (img : List ℕ) (link : ℕ) → Inside img (leadOf img link)
 unfolding leadOf
-lead-inside img link = go (eqb link 0) (textOf img link) (text-within img link)
+lead-inside img link = go (eqb link 0) (runOf img link) (run-within img link)
   where
     go : (z : Bool) (t : Text) → Within img t → Inside img (cond z Nil (byText t (nestedAt img link)))
     go true t h = tt
     go false (Part from to) h = h
     go false NoText h = nested-inside img link
 
-pub lead-at-inside : (img : List ℕ) (b : Block) (i : ℕ) → Inside img (leadAt img b i)
+pub lead-at-inside : (img : List ℕ) (b : View) (i : ℕ) → Inside img (leadAt img b i)
 unfolding leadAt
-lead-at-inside img b i = go (referenceOf img b i)
+lead-at-inside img b i = go (referenceIn img b i)
   where
     go : (w : Word) → Inside img (byLink img w)
     go (Bits link) = lead-inside img link
     go NoWord = tt
 
 -- ---- the search, with n keys left from the j-th on
-module _ (img : List ℕ) (b : Block) (t : List ℕ) (stride : ℕ) where
+module _ (img : List ℕ) (b : View) (t : List ℕ) (stride : ℕ) where
   step : (j n : ℕ) → 0 < n
       → firstText img b t stride j n ≡ cond (isText img t (leadAt img b (stride * j))) j (firstText img b t stride (j + 1) (n - 1))
   unfolding firstText

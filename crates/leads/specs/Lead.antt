@@ -6,13 +6,13 @@ use mathlib.Core.List.{List}
 use lib.Dec.{eqb}
 use lib.ListN.{length}
 use Rattle.common.specs.Header.{inside, isConversion}
-use Rattle.common.specs.Text.{textOf}
+use Rattle.common.specs.Text.{runOf}
 use Rattle.common.specs.declared.text.Text.{Text}
 use Rattle.common.specs.declared.text.Text.the-variants.{Part, NoText}
 use Rattle.common.specs.declared.refusal.Word.{Word}
 use Rattle.common.specs.declared.refusal.Word.the-variants.{Bits, NoWord}
-use Rattle.blocks.specs.Place.{referenceOf}
-use Rattle.blocks.specs.declared.Block.{Block}
+use Rattle.blocks.specs.View.{referenceIn}
+use Rattle.blocks.specs.declared.view.View.{View}
 use Rattle.leads.specs.declared.lead.Lead.{Lead}
 use Rattle.leads.specs.declared.lead.Lead.the-variants.{Words, Nested, Nil, Elsewhere}
 
@@ -23,17 +23,17 @@ abbrev pub byText : Text → Lead → Lead
 byText (Part from to) l = Words from to
 byText NoText l = l
 
--- zero is NIL; a text; a conversion; else elsewhere
+-- zero is NIL; a text, which is told by where it may run; a conversion; else elsewhere
 unfoldable pub leadOf : List ℕ → ℕ → Lead
-leadOf img link = cond (eqb link 0) Nil (byText (textOf img link) (nestedAt img link))
+leadOf img link = cond (eqb link 0) Nil (byText (runOf img link) (nestedAt img link))
 
 abbrev pub byLink : List ℕ → Word → Lead
 byLink img (Bits link) = leadOf img link
 byLink img NoWord = Nil
 
 -- a missing reference is as NIL
-unfoldable pub leadAt : List ℕ → Block → ℕ → Lead
-leadAt img b i = byLink img (referenceOf img b i)
+unfoldable pub leadAt : List ℕ → View → ℕ → Lead
+leadAt img b i = byLink img (referenceIn img b i)
 
 -- the text, or the header of the conversion, that a reference leads to lies in the image
 abbrev pub Inside : List ℕ → Lead → Type 0

@@ -1,35 +1,52 @@
 // Texts as keys of a block's references. Carries over the searches of `apply_text_to_value` and `apply_text_to_text` in text.rs.
 use crate::lead::Lead;
 use crate::lead::lead_at;
-use blocks::Block;
+use blocks::view::View;
 ghost use mathlib.Core.Path.{_≡_};
-ghost use Prim.Native.Nat.{_+_, _-_, _*_, _/_, _≤_, _<_};
-ghost use lib.ListN.{length, take, drop};
+ghost use Prim.Native.Nat.{_-_, _/_, _≤_, _<_};
+ghost use mathlib.Core.List.{[]};
+ghost use lib.ListN.{length};
+ghost use Rattle.common.specs.Text.{textBytes};
 ghost use Rattle.leads.specs.Keys.{sameBytes, isText, firstText, valueKey, pairCount, outputOf, translated};
 ghost use Rattle.leads.specs.Lead.{leadAt};
 
-// Whether the bytes of the image from `from` up to `to` are those of `text`.
+// Whether a text that runs up to `to` ends at p.
+fn is_end(image: &[u8], p: usize, to: usize) -> bool
+    requires { ⌜ to ≤ length (now image) ⌝ }
+    ensures { λ r. ⌜ r ≡ sameBytes (textBytes (now (image .entry)) p to) [] ⌝ }
+{
+    if p < to { image[p] == 0 } else { true }
+}
+
+// Whether the text that runs from `from` up to `to` is `text`. It is looked at up to the first difference, and no further than one byte past the
+// end of `text`.
 fn is_same(image: &[u8], from: usize, to: usize, text: &[u8]) -> bool
     requires { ⌜ (from ≤ to) × (to ≤ length (now image)) ⌝ }
-    ensures { λ r. ⌜ r ≡ sameBytes (take (to - from) (drop from (now (image .entry)))) (now (text .entry)) ⌝ }
+    ensures { λ r. ⌜ r ≡ sameBytes (textBytes (now (image .entry)) from to) (now (text .entry)) ⌝ }
 {
-    if to - from != text.len() {
+    if to - from < text.len() {
         return false;
     }
     let mut i = 0;
     let mut p = from;
     while i < text.len() {
-        if image[p] != text[i] {
+        let b = image[p];
+        if b != text[i] {
+            return false;
+        }
+        // A zero byte ends the text, and is no part of it.
+        if b == 0 {
             return false;
         }
         i += 1;
         p += 1;
     }
-    true
+    let ended = is_end(image, p, to);
+    ended
 }
 
 // Whether the i-th reference leads to a text that equals `text`.
-fn is_key(image: &[u8], b: Block, i: u64, text: &[u8]) -> bool
+fn is_key(image: &[u8], b: View, i: u64, text: &[u8]) -> bool
     ensures { λ r. ⌜ r ≡ isText (now (image .entry)) (now (text .entry)) (leadAt (now (image .entry)) b i) ⌝ }
 {
     match lead_at(image, b, i) {
@@ -41,7 +58,7 @@ fn is_key(image: &[u8], b: Block, i: u64, text: &[u8]) -> bool
 }
 
 // The first of n keys, at every stride-th reference, that equals `text`; n if there is none.
-fn find_text(image: &[u8], b: Block, text: &[u8], stride: u64, n: u64) -> u64
+fn find_text(image: &[u8], b: View, text: &[u8], stride: u64, n: u64) -> u64
     requires { ⌜ (stride ≤ 2) × (n ≤ length (now image)) ⌝ }
     ensures { λ r. ⌜ r ≡ firstText (now (image .entry)) b (now (text .entry)) stride 0 n ⌝ }
 {
@@ -56,11 +73,11 @@ fn find_text(image: &[u8], b: Block, text: &[u8], stride: u64, n: u64) -> u64
 }
 
 // Text to value: the index of the value, which may not be there.
-pub fn value_key(image: &[u8], b: Block, text: &[u8]) -> u64
-    requires { ⌜ b .links - 4 ≤ length (now image) ⌝ }
+pub fn value_key(image: &[u8], b: View, text: &[u8]) -> u64
+    requires { ⌜ b .refs ≤ length (now image) ⌝ }
     ensures { λ r. ⌜ r ≡ valueKey (now (image .entry)) b (now (text .entry)) ⌝ }
 {
-    find_text(image, b, text, 1, b.reference_count())
+    find_text(image, b, text, 1, b.refs)
 }
 
 fn pairs_of(refs: u64) -> u64
@@ -78,11 +95,11 @@ fn output_of(j: u64, pairs: u64) -> u64
 }
 
 // Text to text: where the chosen reference leads.
-pub fn translate(image: &[u8], b: Block, text: &[u8]) -> Lead
-    requires { ⌜ b .links - 4 ≤ length (now image) ⌝ }
+pub fn translate(image: &[u8], b: View, text: &[u8]) -> Lead
+    requires { ⌜ b .refs ≤ length (now image) ⌝ }
     ensures { λ r. ⌜ r ≡ translated (now (image .entry)) b (now (text .entry)) ⌝ }
 {
-    let pairs = pairs_of(b.reference_count());
+    let pairs = pairs_of(b.refs);
     let j = find_text(image, b, text, 2, pairs);
     lead_at(image, b, output_of(j, pairs))
 }

@@ -1,15 +1,15 @@
 // Where a reference leads: to a text, to a nested conversion, nowhere, or elsewhere. Carries over the lookups by `cc_ref` of text.rs, which the
 // crate resolves ahead of time and which are read from the image here.
-use blocks::Block;
+use blocks::view::View;
 use common::header::Header;
 use common::refusal::Word;
 use common::text::Text;
-use common::text::text_of;
+use common::text::run_of;
 ghost use mathlib.Core.Path.{_≡_};
 ghost use Rattle.leads.specs.Lead.{leadOf, leadAt, nestedAt};
 
 pub enum Lead {
-    // A part of the image.
+    // A text, by where it may run in the image; it ends at the first zero byte there.
     Words(usize, usize),
     // The address of a ##CC block.
     Nested(u64),
@@ -35,14 +35,14 @@ pub fn lead_of(image: &[u8], link: u64) -> Lead
     if link == 0 {
         return Lead::Nil;
     }
-    match text_of(image, link) {
+    match run_of(image, link) {
         Text::Part(from, to) => Lead::Words(from, to),
         Text::NoText => nested_at(image, link),
     }
 }
 
 // Where the i-th reference of a block leads.
-pub fn lead_at(image: &[u8], b: Block, i: u64) -> Lead
+pub fn lead_at(image: &[u8], b: View, i: u64) -> Lead
     ensures { λ r. ⌜ r ≡ leadAt (now (image .entry)) b i ⌝ }
 {
     match b.reference(image, i) {

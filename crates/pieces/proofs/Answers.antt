@@ -2,17 +2,18 @@
 -- Assumes nothing.
 use mathlib.Core.Path.{_≡_, refl, sym, subst, _∙_}
 use mathlib.Core.List.{List, [], _∷_, _++_}
-use Prim.Native.Nat.{ℕ, _+_, _-_, _≤_}
+use Prim.Native.Nat.{ℕ, _+_, _≤_}
 use native.Mathlib.Omega.{arith}
 use denote.Enum.Declared.{tagOf}
 use types.Run.{OneOf, miss}
-use lib.ListN.{length, take, drop, length-append}
+use lib.ListN.{length, length-append}
+use Rattle.common.specs.Text.{textBytes}
 use Rattle.steps.specs.Plain.{PlainIn}
 use Rattle.steps.specs.declared.plain.Plain.{Plain}
 use Rattle.steps.specs.declared.plain.Plain.the-variants as plain
 use Rattle.pieces.specs.Write.{sat, sat32, Wrote, Put}
 use Rattle.pieces.specs.Answer.{Answer, number, text, unchanged, unknown, formula, broken, answerOf, prefixed}
-use Rattle.pieces.specs.Did.{Says, SaysText, laid, laidText, Did, NoWords, toldOf}
+use Rattle.pieces.specs.Did.{Says, SaysText, SaidIn, laid, laidText, Did, NoWords, toldOf}
 use Rattle.pieces.specs.declared.said.Said.{Said}
 use Rattle.pieces.specs.declared.said.Said.the-variants as said
 use Rattle.pieces.specs.declared.said.Outcome.{Outcome}
@@ -32,39 +33,29 @@ pub told-as : (img o : List ℕ) (pos lim : ℕ) (p : Plain) {r : Outcome} → P
 told-as img o pos lim p h e = subst (λ (r : Outcome). Did img o o pos lim (answerOf img p) 0 r) (sym e) (told-did img o pos lim p h)
 
 -- nothing is said but a word
-pub quiet-did : {img : List ℕ} (x : Answer) (o : List ℕ) (pos lim : ℕ) {n : ℕ} {r : Outcome} → Says img pos x (r .said) → r .visits ≡ sat32 n → laid x (r .said) ≡ []
+pub quiet-did : {img : List ℕ} (x : Answer) (o : List ℕ) (pos lim : ℕ) {n : ℕ} {r : Outcome} → Says img (length o) pos x (r .said) → r .visits ≡ sat32 n → laid x (r .said) ≡ []
     → Did img o o pos lim x n r
 quiet-did x o pos lim says count nothing = record { says = says; count = count; wrote = rw nothing (none o pos lim) }
 
--- a part of the image that is said lies in it
-abbrev pub SaidIn : List ℕ → Said → Type 0
-SaidIn img (said.Number x) = Unit {0}
-SaidIn img (said.Words from to) = (from ≤ to) × (to ≤ length img)
-SaidIn img (said.Text e) = Unit {0}
-SaidIn img said.Unchanged = Unit {0}
-SaidIn img said.Unknown = Unit {0}
-SaidIn img said.Formula = Unit {0}
-SaidIn img said.Broken = Unit {0}
+text-in : (img : List ℕ) (room pos : ℕ) (t : List ℕ) (s : Said) → SaysText img room pos t s → SaidIn img s
+text-in img room pos t (said.Number x) k = tt
+text-in img room pos t (said.Words from to) k = (k .1, k .2)
+text-in img room pos t (said.Text e) k = tt
+text-in img room pos t said.Unchanged k = tt
+text-in img room pos t said.Unknown k = tt
+text-in img room pos t said.Formula k = tt
+text-in img room pos t said.Broken k = tt
 
-text-in : (img : List ℕ) (pos : ℕ) (t : List ℕ) (s : Said) → SaysText img pos t s → SaidIn img s
-text-in img pos t (said.Number x) k = tt
-text-in img pos t (said.Words from to) k = (k .1, k .2)
-text-in img pos t (said.Text e) k = tt
-text-in img pos t said.Unchanged k = tt
-text-in img pos t said.Unknown k = tt
-text-in img pos t said.Formula k = tt
-text-in img pos t said.Broken k = tt
-
-said-in : (img : List ℕ) (pos : ℕ) (x : Answer) (s : Said) → Says img pos x s → SaidIn img s
-said-in img pos (number y) s k = subst (SaidIn img) (sym k) tt
-said-in img pos (text t) s k = text-in img pos t s k
-said-in img pos unchanged s k = subst (SaidIn img) (sym k) tt
-said-in img pos unknown s k = subst (SaidIn img) (sym k) tt
-said-in img pos formula s k = subst (SaidIn img) (sym k) tt
-said-in img pos broken s k = subst (SaidIn img) (sym k) tt
+pub said-in : (img : List ℕ) (room pos : ℕ) (x : Answer) (s : Said) → Says img room pos x s → SaidIn img s
+said-in img room pos (number y) s k = subst (SaidIn img) (sym k) tt
+said-in img room pos (text t) s k = text-in img room pos t s k
+said-in img room pos unchanged s k = subst (SaidIn img) (sym k) tt
+said-in img room pos unknown s k = subst (SaidIn img) (sym k) tt
+said-in img room pos formula s k = subst (SaidIn img) (sym k) tt
+said-in img room pos broken s k = subst (SaidIn img) (sym k) tt
 
 pub did-in : {img o p : List ℕ} {pos lim n : ℕ} {x : Answer} {r : Outcome} → Did img o p pos lim x n r → SaidIn img (r .said)
-did-in {img} {pos = pos} {x = x} {r = r} did = said-in img pos x (r .said) (did .says)
+did-in {img} {o} {pos = pos} {x = x} {r = r} did = said-in img (length o) pos x (r .said) (did .says)
 
 -- a text that was put is told by its end
 pub put-did : {img o p t : List ℕ} {pos lim e n : ℕ} {r : Outcome} → r .said ≡ said.Text e → r .visits ≡ sat32 n → Put o p pos lim t e
@@ -72,12 +63,12 @@ pub put-did : {img o p t : List ℕ} {pos lim e n : ℕ} {r : Outcome} → r .sa
 put-did told count put = record { says = rw told (put .end); count = count; wrote = rw told (put .wrote) }
 
 -- a part of the image, once it is put
-pub pasted-did : {img o p q : List ℕ} {pos lim : ℕ} (from to : ℕ) {e n : ℕ} (x : Answer) {r s : Outcome} → lim ≤ 18446744073709551615 → pos ≤ 18446744073709551615
-    → Did img o p pos lim x n r → r .said ≡ said.Words from to → Put p q pos lim (take (to - from) (drop from img)) e → s .said ≡ said.Text e
+pub pasted-did : {img o p q : List ℕ} {pos lim : ℕ} (from to : ℕ) {e n : ℕ} (x : Answer) {r s : Outcome} → lim ≤ length o → pos ≤ length o + 1
+    → Did img o p pos lim x n r → r .said ≡ said.Words from to → Put p q pos lim (textBytes img from to) e → s .said ≡ said.Text e
     → s .visits ≡ r .visits → Did img o q pos lim x n s
 pasted-did from to (number y) fits low did told put end count = let z : said.Words from to ≡ said.Number y = sym told ∙ did .says in let q : _≡_ {A = ℕ} 0 1 = cc in absurd (omega arith)
 pasted-did {img} {o} {p} {q} {pos} {lim} from to {e} (text t) fits low did told put end count =
-    let part : SaysText img pos t (said.Words from to) = subst (SaysText img pos t) told (did .says) in
+    let part : SaysText img (length o) pos t (said.Words from to) = subst (SaysText img (length o) pos t) told (did .says) in
     let before : Wrote o p pos lim [] = subst (λ (s : Said). Wrote o p pos lim (laidText t s)) told (did .wrote) in
     let both = then {s = []} fits (record { end = omega arith; wrote = before }) put in
     put-did end (count ∙ did .count) (subst (λ (u : List ℕ). Put o q pos lim u e) (sym (part .0)) both)
@@ -87,25 +78,25 @@ pasted-did from to formula fits low did told put end count = let z : said.Words 
 pasted-did from to broken fits low did told put end count = let z : said.Words from to ≡ said.Broken = sym told ∙ did .says in let q : _≡_ {A = ℕ} 0 1 = cc in absurd (omega arith)
 
 -- ---- behind other bytes
-says-behind : (img pre t : List ℕ) (pos e : ℕ) (s : Said) → NoWords s → e ≡ sat (pos + length pre) → SaysText img e t s → SaysText img pos (pre ++ t) s
-says-behind img pre t pos e (said.Number x) n h k = k
-says-behind img pre t pos e (said.Words from to) n h k = absurd n
-says-behind img pre t pos e (said.Text f) n h k = simp length-append (omega (arith, h, k))
-says-behind img pre t pos e said.Unchanged n h k = k
-says-behind img pre t pos e said.Unknown n h k = k
-says-behind img pre t pos e said.Formula n h k = k
-says-behind img pre t pos e said.Broken n h k = k
+says-behind : (img pre t : List ℕ) (room pos e : ℕ) (s : Said) → NoWords s → e ≡ sat room (pos + length pre) → SaysText img room e t s → SaysText img room pos (pre ++ t) s
+says-behind img pre t room pos e (said.Number x) n h k = k
+says-behind img pre t room pos e (said.Words from to) n h k = absurd n
+says-behind img pre t room pos e (said.Text f) n h k = simp length-append (omega (arith, h, k))
+says-behind img pre t room pos e said.Unchanged n h k = k
+says-behind img pre t room pos e said.Unknown n h k = k
+says-behind img pre t room pos e said.Formula n h k = k
+says-behind img pre t room pos e said.Broken n h k = k
 
-prefixed-says : (img pre : List ℕ) (pos e : ℕ) (x : Answer) (s : Said) → NoWords s → e ≡ sat (pos + length pre) → Says img e x s → Says img pos (prefixed pre x) s
-prefixed-says img pre pos e (number y) s n h k = k
-prefixed-says img pre pos e (text t) s n h k = says-behind img pre t pos e s n h k
-prefixed-says img pre pos e unchanged s n h k = k
-prefixed-says img pre pos e unknown s n h k = k
-prefixed-says img pre pos e formula s n h k = k
-prefixed-says img pre pos e broken s n h k = k
+prefixed-says : (img pre : List ℕ) (room pos e : ℕ) (x : Answer) (s : Said) → NoWords s → e ≡ sat room (pos + length pre) → Says img room e x s → Says img room pos (prefixed pre x) s
+prefixed-says img pre room pos e (number y) s n h k = k
+prefixed-says img pre room pos e (text t) s n h k = says-behind img pre t room pos e s n h k
+prefixed-says img pre room pos e unchanged s n h k = k
+prefixed-says img pre room pos e unknown s n h k = k
+prefixed-says img pre room pos e formula s n h k = k
+prefixed-says img pre room pos e broken s n h k = k
 
 -- what is put behind other bytes; only a text keeps them
-laid-behind : (img : List ℕ) {o p q pre : List ℕ} {pos lim e : ℕ} (t : List ℕ) (s : Said) → lim ≤ 18446744073709551615 → Put o p pos lim pre e → SaysText img e t s
+laid-behind : (img : List ℕ) {o p q pre : List ℕ} {pos lim e : ℕ} (t : List ℕ) (s : Said) → lim ≤ length o → Put o p pos lim pre e → SaysText img (length p) e t s
     → Wrote p q e lim (laidText t s) → Wrote o q pos lim (laidText (pre ++ t) s)
 laid-behind img t (said.Number x) fits put k w = absurd k
 laid-behind img t (said.Words from to) fits put k w = forget (next _ _ _ _ _ _ _ _ fits (put .end) (put .wrote) w)
@@ -115,7 +106,7 @@ laid-behind img t said.Unknown fits put k w = absurd k
 laid-behind img t said.Formula fits put k w = absurd k
 laid-behind img t said.Broken fits put k w = absurd k
 
-prefixed-laid : (img : List ℕ) {o p q pre : List ℕ} {pos lim e : ℕ} (x : Answer) (s : Said) → lim ≤ 18446744073709551615 → Put o p pos lim pre e → Says img e x s
+prefixed-laid : (img : List ℕ) {o p q pre : List ℕ} {pos lim e : ℕ} (x : Answer) (s : Said) → lim ≤ length o → Put o p pos lim pre e → Says img (length p) e x s
     → Wrote p q e lim (laid x s) → Wrote o q pos lim (laid (prefixed pre x) s)
 prefixed-laid img (number y) s fits put k w = forget (next _ _ _ _ _ _ _ _ fits (put .end) (put .wrote) w)
 prefixed-laid img (text t) s fits put k w = laid-behind img t s fits put k w
@@ -124,10 +115,10 @@ prefixed-laid img unknown s fits put k w = forget (next _ _ _ _ _ _ _ _ fits (pu
 prefixed-laid img formula s fits put k w = forget (next _ _ _ _ _ _ _ _ fits (put .end) (put .wrote) w)
 prefixed-laid img broken s fits put k w = forget (next _ _ _ _ _ _ _ _ fits (put .end) (put .wrote) w)
 
-pub prefixed-did : {img o p q pre : List ℕ} {pos lim e : ℕ} {x : Answer} {n : ℕ} {r : Outcome} → lim ≤ 18446744073709551615 → NoWords (r .said) → Put o p pos lim pre e
+pub prefixed-did : {img o p q pre : List ℕ} {pos lim e : ℕ} {x : Answer} {n : ℕ} {r : Outcome} → lim ≤ length o → NoWords (r .said) → Put o p pos lim pre e
     → Did img p q e lim x n r → Did img o q pos lim (prefixed pre x) n r
-prefixed-did {img = img} {pre = pre} {pos = pos} {e = e} {x = x} {r = r} fits plain put did = record {
-  says = prefixed-says img pre pos e x (r .said) plain (put .end) (did .says);
+prefixed-did {img = img} {o = o} {pre = pre} {pos = pos} {e = e} {x = x} {r = r} fits plain put did = record {
+  says = prefixed-says img pre (length o) pos e x (r .said) plain (put .end) (subst (λ (m : ℕ). Says img m e x (r .said)) (put .wrote .same) (did .says));
   count = did .count;
   wrote = prefixed-laid img x (r .said) fits put (did .says) (did .wrote);
 }

@@ -1,14 +1,18 @@
 -- Laws of writing: nothing, one byte, one text and then another, a part of a list byte by byte. Assumes nothing.
 use mathlib.Core.Path.{_≡_, refl, sym, ap, _∙_}
+use mathlib.Core.Bool.{Bool, true, false, cond}
 use mathlib.Core.Logic.{_⊎_, inl, inr, ⊎-elim}
 use mathlib.Core.List.{List, [], _∷_, _++_}
-use Prim.Native.Nat.{ℕ, _+_, _-_, _≤_, _<_}
+use Prim.Native.Nat.{ℕ, zero, suc, _+_, _-_, _≤_, _<_, min}
 use native.Mathlib.Nat.{add-zero}
 use native.Mathlib.Decide.{decLt}
 use native.Mathlib.Numerals.{add-one}
 use native.Mathlib.Omega.{arith}
+use lib.Dec.{eqb}
 use lib.ListN.{length, getD, take, drop, set, length-set, length-append, length-take, length-drop, List·getD-append}
-use lib.Seq.{take-suc, length-take-le, getD-take, getD-drop, getD-set-same, getD-set-other, getD-append-add}
+use lib.Seq.{take-suc, take-all, take-length, take-take, length-take-le, getD-take, getD-drop, getD-set-same, getD-set-other, getD-append-add}
+use Rattle.common.specs.Text.{untilZero, textBytes}
+use Rattle.common.proofs.Texts.{bytes-short, text-shown}
 use Rattle.pieces.specs.Write.{sat, Wrote, Put}
 
 pub below? : (i n : ℕ) → (i < n) ⊎ (n ≤ i)
@@ -41,7 +45,7 @@ one o pos lim b h l = record {
     first i e = rw (e, add-zero) (getD-set-same o pos b 0 (omega arith))
 
 -- a text, and then another from where the first ended
-pub next : (o p q : List ℕ) (pos lim e : ℕ) (s t : List ℕ) → lim ≤ 18446744073709551615 → e ≡ sat (pos + length s) → Wrote o p pos lim s → Wrote p q e lim t
+pub next : (o p q : List ℕ) (pos lim e : ℕ) (s t : List ℕ) → lim ≤ length o → e ≡ sat (length o) (pos + length s) → Wrote o p pos lim s → Wrote p q e lim t
     → Wrote o q pos lim (s ++ t)
 next o p q pos lim e s t fits end w x = record {
   same = x .same ∙ w .same;
@@ -57,23 +61,23 @@ next o p q pos lim e s t fits end w x = record {
         ∙ sym (getD-append-add s t j 0)
         ∙ ap (λ (k : ℕ). getD (s ++ t) k 0) (sym a)
 
-pub then : {o p q : List ℕ} {pos lim e f : ℕ} {s t : List ℕ} → lim ≤ 18446744073709551615 → Put o p pos lim s e → Put p q e lim t f → Put o q pos lim (s ++ t) f
+pub then : {o p q : List ℕ} {pos lim e f : ℕ} {s t : List ℕ} → lim ≤ length o → Put o p pos lim s e → Put p q e lim t f → Put o q pos lim (s ++ t) f
 then {o} {p} {q} {pos} {lim} {e} {f} {s} {t} fits x y = record {
-  end = simp length-append (omega (arith, x .end, y .end));
+  end = simp length-append (omega (arith, x .end, x .wrote .same, y .end));
   wrote = next o p q pos lim e s t fits (x .end) (x .wrote) (y .wrote);
 }
 
-pub empty : (o : List ℕ) (pos lim : ℕ) → pos ≤ 18446744073709551615 → Put o o pos lim [] pos
+pub empty : (o : List ℕ) (pos lim : ℕ) → pos ≤ length o + 1 → Put o o pos lim [] pos
 empty o pos lim h = record { end = omega arith; wrote = none o pos lim }
 
 -- ---- the front of a list: one byte more, and all of it where the limit is met
 module _ (o p : List ℕ) (pos lim : ℕ) (s : List ℕ) where
-  pub one-more : (k n b e : ℕ) → k < length s → n ≡ k + 1 → b ≡ getD s k 0 → e ≡ pos + k → e < lim → lim ≤ length o → lim ≤ 18446744073709551615
+  pub one-more : (k n b e : ℕ) → k < length s → n ≡ k + 1 → b ≡ getD s k 0 → e ≡ pos + k → e < lim → lim ≤ length o
       → Wrote o p pos lim (take k s) → Wrote o (set p e b) pos lim (take n s)
-  one-more k n b e h hn hb he hl out fits w =
+  one-more k n b e h hn hb he hl out w =
       let size : length (take k s) ≡ k = length-take-le k s (omega arith) in
       rw (hn, add-one, take-suc s k 0 h, ← hb)
-      (next o p (set p e b) pos lim e (take k s) (b ∷ []) fits (omega arith) w (one p e lim b hl (omega (arith, w .same))))
+      (next o p (set p e b) pos lim e (take k s) (b ∷ []) out (omega arith) w (one p e lim b hl (omega (arith, w .same))))
 
   pub longer : (k n : ℕ) → k ≤ length s → lim ≤ pos + k → Wrote o p pos lim (take k s) → Wrote o p pos lim (take n s)
   longer k n h l w = record { same = w .same; below = w .below; above = w .above; text = early }
@@ -90,13 +94,63 @@ pub part-start : (o : List ℕ) (pos lim : ℕ) (s : List ℕ) (from : ℕ) → 
 part-start o pos lim s from = let z : from - from ≡ 0 = omega arith in rw z (none o pos lim)
 
 pub part-more : (o p : List ℕ) (pos lim : ℕ) (s : List ℕ) (from i e : ℕ) → from ≤ i → i < length s → e ≡ pos + (i - from) → e < lim → lim ≤ length o
-    → lim ≤ 18446744073709551615 → Wrote o p pos lim (take (i - from) (drop from s)) → Wrote o (set p e (getD s i 0)) pos lim (take (i + 1 - from) (drop from s))
-part-more o p pos lim s from i e h k he hl out fits w =
+    → Wrote o p pos lim (take (i - from) (drop from s)) → Wrote o (set p e (getD s i 0)) pos lim (take (i + 1 - from) (drop from s))
+part-more o p pos lim s from i e h k he hl out w =
     let place : i ≡ from + (i - from) = omega arith in
-    one-more o p pos lim (drop from s) (i - from) (i + 1 - from) (getD s i 0) e (omega (arith, length-drop from s)) (omega arith) (ap (λ (j : ℕ). getD s j 0) place ∙ sym (getD-drop from s (i - from) 0)) he hl out fits w
+    one-more o p pos lim (drop from s) (i - from) (i + 1 - from) (getD s i 0) e (omega (arith, length-drop from s)) (omega arith) (ap (λ (j : ℕ). getD s j 0) place ∙ sym (getD-drop from s (i - from) 0)) he hl out w
 
-pub part-put : {o p : List ℕ} {pos lim e : ℕ} (s : List ℕ) (from to : ℕ) → to ≤ length s → e ≡ sat (pos + (to - from)) → Wrote o p pos lim (take (to - from) (drop from s))
-    → Put o p pos lim (take (to - from) (drop from s)) e
-part-put s from to h end w =
-    let size : length (take (to - from) (drop from s)) ≡ to - from = length-take-le (to - from) (drop from s) (omega (arith, length-drop from s)) in
-    record { end = omega arith; wrote = w }
+-- ---- a text that runs in the image, looked at no further than one byte past the room
+until-take : (n : ℕ) (bs : List ℕ) → untilZero (take n bs) ≡ take n (untilZero bs)
+unfolding untilZero
+until-take zero bs = refl
+until-take (suc n) [] = refl
+until-take (suc n) (b ∷ bs) = go (eqb b 0) (until-take n bs)
+  where
+    go : (z : Bool) → untilZero (take n bs) ≡ take n (untilZero bs)
+        → cond z [] (b ∷ untilZero (take n bs)) ≡ take (suc n) (cond z [] (b ∷ untilZero bs))
+    go true e = refl
+    go false e = ap (λ (l : List ℕ). b ∷ l) e
+
+-- the text of a shorter run is the front of the text
+pub shorter-run : (img : List ℕ) (from n to : ℕ) → from + n ≤ to → textBytes img from (from + n) ≡ take n (textBytes img from to)
+unfolding textBytes
+shorter-run img from n to h =
+    let k : (from + n) - from ≡ n = omega arith in
+    ap (λ (m : ℕ). untilZero (take m (drop from img))) k
+    ∙ ap untilZero (sym (take-take n (to - from) (drop from img) (omega arith)))
+    ∙ until-take n (take (to - from) (drop from img))
+
+-- what is looked at of a text: all of it, or one byte past the room
+pub looked-at : (img : List ℕ) (from to n : ℕ) → from ≤ to → length (textBytes img from (min to (from + n))) ≡ min (length (textBytes img from to)) n
+looked-at img from to n h = ⊎-elim
+    (λ (l : from + n < to).
+    let m : min to (from + n) ≡ from + n = omega arith in
+    ap (λ (k : ℕ). length (textBytes img from k)) m
+    ∙ ap length (shorter-run img from n to (omega arith))
+    ∙ length-take n (textBytes img from to)
+    ∙ (let e : min n (length (textBytes img from to)) ≡ min (length (textBytes img from to)) n = omega arith in e))
+    (λ (l : to ≤ from + n).
+    let m : min to (from + n) ≡ to = omega arith in
+    ap (λ (k : ℕ). length (textBytes img from k)) m
+    ∙ (let e : length (textBytes img from to) ≡ min (length (textBytes img from to)) n = omega (arith, bytes-short img from to) in e))
+    (below? (from + n) to)
+
+-- the part of the image that is looked at is the front of the text
+pub looked-part : (img : List ℕ) (from to n : ℕ) → n ≤ length (textBytes img from to) → take n (drop from img) ≡ take n (textBytes img from to)
+looked-part img from to n h =
+    let t = textBytes img from to in
+    let all : (from + length t) - from ≡ length t = omega arith in
+    sym (take-take n (length t) (drop from img) h) ∙ ap (take n) (ap (λ (k : ℕ). take k (drop from img)) (sym all) ∙ text-shown img from to)
+
+-- a text is put where it is written as far as it was looked at
+pub text-put : {o p part : List ℕ} {pos lim e : ℕ} (t : List ℕ) (n : ℕ) → lim ≤ length o → pos ≤ length o + 1 → n ≡ min (length t) (length o + 1 - pos) → e ≡ pos + n
+    → part ≡ take n t → Wrote o p pos lim part → Put o p pos lim t e
+text-put {o} {p} {part} {pos} {lim} {e} t n fits low hn he front v =
+    let w : Wrote o p pos lim (take n t) = rw front at v in
+    record {
+      end = omega arith;
+      wrote = ⊎-elim
+          (λ (l : n < length t). rw take-length at (longer o p pos lim t n (length t) (omega arith) (omega arith) w))
+          (λ (l : length t ≤ n). rw (take-all n t l) at w)
+          (below? n (length t));
+    }

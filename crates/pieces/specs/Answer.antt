@@ -1,9 +1,9 @@
 -- What an application answers (document 01, "What a call can say": "Number, Text with its length, Unchanged, Unknown"), and the two things that
 -- stop it. Assumes nothing: these are definitions.
-use Prim.Native.Nat.{ℕ, _-_}
+use Prim.Native.Nat.{ℕ}
 use mathlib.Core.List.{List, _++_}
-use lib.ListN.{take, drop}
 use lib.Ieee.{Float}
+use Rattle.common.specs.Text.{textBytes}
 use Rattle.steps.specs.declared.plain.Plain.{Plain}
 use Rattle.steps.specs.declared.plain.Plain.the-variants as plain
 
@@ -16,10 +16,10 @@ pub data Answer : Type 0 where
   formula : Answer
   broken : Answer
 
--- a part of the image is its bytes
+-- a text that runs in the image is its bytes
 abbrev pub answerOf : List ℕ → Plain → Answer
 answerOf img (plain.Number x) = number x
-answerOf img (plain.Words from to) = text (take (to - from) (drop from img))
+answerOf img (plain.Words from to) = text (textBytes img from to)
 answerOf img plain.Unchanged = unchanged
 answerOf img plain.Unknown = unknown
 answerOf img plain.Formula = formula

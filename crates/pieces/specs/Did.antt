@@ -1,8 +1,9 @@
 -- What each function of an application ensures (for inner contracts). Assumes nothing: these are definitions.
 use mathlib.Core.Path.{_≡_}
 use mathlib.Core.List.{List, []}
-use Prim.Native.Nat.{ℕ, _+_, _-_, _≤_}
-use lib.ListN.{length, take, drop}
+use Prim.Native.Nat.{ℕ, _+_, _≤_}
+use lib.ListN.{length}
+use Rattle.common.specs.Text.{textBytes}
 use Rattle.steps.specs.declared.plain.Plain.{Plain}
 use Rattle.steps.specs.declared.plain.Plain.the-variants as plain
 use Rattle.pieces.specs.Write.{sat, sat32, Wrote}
@@ -11,24 +12,34 @@ use Rattle.pieces.specs.declared.said.Said.{Said}
 use Rattle.pieces.specs.declared.said.Said.the-variants as said
 use Rattle.pieces.specs.declared.said.Outcome.{Outcome}
 
--- a text t is said as a part of the image, or, put together from pos on, by the place behind it
-abbrev pub SaysText : List ℕ → ℕ → List ℕ → Said → Type 0
-SaysText img pos t (said.Number x) = ⊥
-SaysText img pos t (said.Words from to) = (t ≡ take (to - from) (drop from img)) × (from ≤ to) × (to ≤ length img)
-SaysText img pos t (said.Text e) = e ≡ sat (pos + length t)
-SaysText img pos t said.Unchanged = ⊥
-SaysText img pos t said.Unknown = ⊥
-SaysText img pos t said.Formula = ⊥
-SaysText img pos t said.Broken = ⊥
+-- a text t is said by where it runs in the image, or, put together from pos on, by the place behind it, or one behind the room
+abbrev pub SaysText : List ℕ → ℕ → ℕ → List ℕ → Said → Type 0
+SaysText img room pos t (said.Number x) = ⊥
+SaysText img room pos t (said.Words from to) = (t ≡ textBytes img from to) × (from ≤ to) × (to ≤ length img)
+SaysText img room pos t (said.Text e) = e ≡ sat room (pos + length t)
+SaysText img room pos t said.Unchanged = ⊥
+SaysText img room pos t said.Unknown = ⊥
+SaysText img room pos t said.Formula = ⊥
+SaysText img room pos t said.Broken = ⊥
 
 -- the code's word for an answer
-abbrev pub Says : List ℕ → ℕ → Answer → Said → Type 0
-Says img pos (number x) s = s ≡ said.Number x
-Says img pos (text t) s = SaysText img pos t s
-Says img pos unchanged s = s ≡ said.Unchanged
-Says img pos unknown s = s ≡ said.Unknown
-Says img pos formula s = s ≡ said.Formula
-Says img pos broken s = s ≡ said.Broken
+abbrev pub Says : List ℕ → ℕ → ℕ → Answer → Said → Type 0
+Says img room pos (number x) s = s ≡ said.Number x
+Says img room pos (text t) s = SaysText img room pos t s
+Says img room pos unchanged s = s ≡ said.Unchanged
+Says img room pos unknown s = s ≡ said.Unknown
+Says img room pos formula s = s ≡ said.Formula
+Says img room pos broken s = s ≡ said.Broken
+
+-- a run that is said lies in the image
+abbrev pub SaidIn : List ℕ → Said → Type 0
+SaidIn img (said.Number x) = Unit {0}
+SaidIn img (said.Words from to) = (from ≤ to) × (to ≤ length img)
+SaidIn img (said.Text e) = Unit {0}
+SaidIn img said.Unchanged = Unit {0}
+SaidIn img said.Unknown = Unit {0}
+SaidIn img said.Formula = Unit {0}
+SaidIn img said.Broken = Unit {0}
 
 -- what is put into the output by then: a text that was put together
 abbrev pub laidText : List ℕ → Said → List ℕ
@@ -50,11 +61,11 @@ laid broken s = []
 
 -- o became p, with the answer x told after n begun blocks
 pub record Did (img o p : List ℕ) (pos lim : ℕ) (x : Answer) (n : ℕ) (r : Outcome) : Type 0 where
-  pub says : Says img pos x (r .said)
+  pub says : Says img (length o) pos x (r .said)
   pub count : r .visits ≡ sat32 n
   pub wrote : Wrote o p pos lim (laid x (r .said))
 
--- no part of the image: what a bit group says of its parts
+-- no text that runs in the image: what a bit group says of its parts
 abbrev pub NoWords : Said → Type 0
 NoWords (said.Number x) = Unit {0}
 NoWords (said.Words from to) = ⊥

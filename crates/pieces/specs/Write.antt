@@ -4,9 +4,9 @@ use mathlib.Core.List.{List}
 use Prim.Native.Nat.{ℕ, _+_, _≤_, _<_, min}
 use lib.ListN.{length, getD}
 
--- a place in the output, which stops at the largest usize
-abbrev pub sat : ℕ → ℕ
-sat n = min n 18446744073709551615
+-- a place in an output of so much room, which stops one behind it
+abbrev pub sat : ℕ → ℕ → ℕ
+sat room n = min n (room + 1)
 
 -- a count of visits, which stops at the largest u32
 abbrev pub sat32 : ℕ → ℕ
@@ -20,7 +20,7 @@ pub record Wrote (o p : List ℕ) (pos lim : ℕ) (t : List ℕ) : Type 0 where
   pub above : (i : ℕ) → lim ≤ i → getD p i 0 ≡ getD o i 0
   pub text : (i : ℕ) → i < length t → pos + i < lim → getD p (pos + i) 0 ≡ getD t i 0
 
--- the same, and the place behind the text is r
+-- the same, and the place behind the text is r, or one behind the room
 pub record Put (o p : List ℕ) (pos lim : ℕ) (t : List ℕ) (r : ℕ) : Type 0 where
-  pub end : r ≡ sat (pos + length t)
+  pub end : r ≡ sat (length o) (pos + length t)
   pub wrote : Wrote o p pos lim t

@@ -3,7 +3,7 @@
 use crate::paste::paste;
 use crate::paste::paste_byte;
 use common::text::Text;
-use common::text::text_of;
+use common::text::run_of;
 ghost use mathlib.Core.Path.{_≡_};
 ghost use mathlib.Core.List.{_++_};
 ghost use Prim.Native.Nat.{_+_, _≤_};
@@ -11,7 +11,7 @@ ghost use lib.ListN.{length};
 ghost use Rattle.pieces.specs.Label.{nameAt, bar, equals, nameBy, label as labelOf};
 ghost use Rattle.pieces.specs.Write.{Put};
 
-// The name of the block at `at`: the first of its four fixed links, where the image goes so far.
+// Where the name of the block at `at` may run: the first of its four fixed links leads to it, where the image goes so far.
 fn name_at(image: &[u8], at: u64) -> Text
     requires { ⌜ at + 24 ≤ length (now image) ⌝ }
     ensures { λ r. ⌜ r ≡ nameAt (now (image .entry)) at ⌝ }
@@ -20,11 +20,11 @@ fn name_at(image: &[u8], at: u64) -> Text
     if image.len() - from < 32 {
         return Text::NoText;
     }
-    text_of(image, words::u64_at(image, from + 24))
+    run_of(image, words::u64_at(image, from + 24))
 }
 
 pub fn paste_bar(started: bool, out: &mut [u8], pos: usize, lim: usize) -> usize
-    requires { ⌜ lim ≤ length (now out) ⌝ }
+    requires { ⌜ (lim ≤ length (now out)) × (pos ≤ length (now out) + 1) ⌝ }
     ensures { λ r. ⌜ Put (now (out .entry)) (now (out .exit)) pos lim (bar started) r ⌝ }
 {
     if started {
@@ -35,7 +35,7 @@ pub fn paste_bar(started: bool, out: &mut [u8], pos: usize, lim: usize) -> usize
 }
 
 fn paste_equals(out: &mut [u8], pos: usize, lim: usize) -> usize
-    requires { ⌜ lim ≤ length (now out) ⌝ }
+    requires { ⌜ (lim ≤ length (now out)) × (pos ≤ length (now out) + 1) ⌝ }
     ensures { λ r. ⌜ Put (now (out .entry)) (now (out .exit)) pos lim equals r ⌝ }
 {
     let p = paste_byte(b' ', out, pos, lim);
@@ -45,7 +45,7 @@ fn paste_equals(out: &mut [u8], pos: usize, lim: usize) -> usize
 
 // The name of the block at `at` and " = ", if it has a name.
 fn paste_name(image: &[u8], at: u64, out: &mut [u8], pos: usize, lim: usize) -> usize
-    requires { ⌜ (lim ≤ length (now out)) × (at + 24 ≤ length (now image)) ⌝ }
+    requires { ⌜ (lim ≤ length (now out)) × (pos ≤ length (now out) + 1) × (at + 24 ≤ length (now image)) ⌝ }
     ensures { λ r. ⌜ Put (now (out .entry)) (now (out .exit)) pos lim (nameBy (now (image .entry)) (nameAt (now (image .entry)) at)) r ⌝ }
 {
     match name_at(image, at) {
@@ -66,7 +66,7 @@ pub fn paste_label(
     pos: usize,
     lim: usize,
 ) -> usize
-    requires { ⌜ (lim ≤ length (now out)) × (at + 24 ≤ length (now image)) ⌝ }
+    requires { ⌜ (lim ≤ length (now out)) × (pos ≤ length (now out) + 1) × (at + 24 ≤ length (now image)) ⌝ }
     ensures { λ r. ⌜ Put (now (out .entry)) (now (out .exit)) pos lim (bar started ++ labelOf (now (image .entry)) at) r ⌝ }
 {
     let p = paste_bar(started, out, pos, lim);

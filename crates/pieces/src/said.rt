@@ -6,8 +6,8 @@ ghost use Prim.Native.Nat.{_+_};
 ghost use Rattle.pieces.specs.Did.{toldOf};
 ghost use Rattle.pieces.specs.Write.{sat32};
 
-// A text is said as the part of the image that it is, with nothing written, or, where it was put together, by the place behind it. `Formula` and
-// `Broken` stop the application.
+// A text is said by where it runs in the image, with nothing written, or, where it was put together, by the place behind it, or one behind the
+// room. `Formula` and `Broken` stop the application.
 pub enum Said {
     Number(f64),
     Words(usize, usize),

@@ -7,7 +7,7 @@ use native.Mathlib.Omega.{arith}
 use borrow.Author.Tests.{ne-eqb, lt-ltb, le-ltb}
 use lib.Dec.{eqb, ltb}
 use lib.ListN.{length, getD}
-use lib.Ieee.{Float, nan, le, eq}
+use lib.Ieee.{Float, nan, inf, fin, le, lt, eq}
 use Rattle.words.specs.Words.{valueAt}
 use Rattle.rules.specs.Values.{values, plus, times, over}
 use Rattle.rules.specs.Linear.{linear, rational, poly}
@@ -17,6 +17,47 @@ use Rattle.rules.specs.Search.{firstKey, keySearch, firstRange, rangeInd
 or-true : (b : Bool) → (b || true) ≡ true
 or-true true = refl
 or-true false = refl
+
+and-true : (b : Bool) → (b && true) ≡ b
+and-true true = refl
+and-true false = refl
+
+and-false : (b : Bool) → (b && false) ≡ false
+and-false true = refl
+and-false false = refl
+
+or-left : (a b : Bool) → (a || b) ≡ false → a ≡ false
+or-left true b h = h
+or-left false b h = refl
+
+-- ---- a NaN is no key, and nothing is under it
+pub no-key : (x : Float) → eq nan x ≡ false
+unfolding eq
+no-key x = refl
+
+pub none-under : (whole : Bool) (x : Float) → cond whole (le x nan) (lt x nan) ≡ false
+unfolding le lt eq
+none-under true nan = refl
+none-under true (inf s) = refl
+none-under true (fin s m e) = refl
+none-under false nan = refl
+none-under false (inf s) = refl
+none-under false (fin s m e) = refl
+
+-- what is above a bound is under it neither way
+pub not-under : (whole : Bool) (x high : Float) → le x high ≡ false → cond whole (le x high) (lt x high) ≡ false
+unfolding le
+not-under true x high t = t
+not-under false x high t = or-left (lt x high) (eq x high) t
+
+-- ---- a range by its upper bound first
+pub held-under : (whole : Bool) (low high x : Float) → cond whole (le x high) (lt x high) ≡ true → holds whole low high x ≡ le low x
+unfolding holds
+held-under whole low high x t = rw t (and-true (le low x))
+
+pub held-over : (whole : Bool) (low high x : Float) → cond whole (le x high) (lt x high) ≡ false → holds whole low high x ≡ false
+unfolding holds
+held-over whole low high x t = rw t (and-false (le low x))
 
 module _ (img : List ℕ) where
   -- ---- the list of values

@@ -1,10 +1,11 @@
 // The searches of types 7 and 8: the index of a key or of a range, and whether it matched. Carries over `find_range_to_text_index` and the
 // key search of text.rs.
-use crate::number::value_at;
-use crate::table_lookup::is_held;
+use crate::table_lookup::is_held_at;
 ghost use mathlib.Core.Path.{_≡_};
 ghost use Prim.Native.Nat.{_+_, _*_, _≤_};
 ghost use lib.ListN.{length};
+ghost use lib.Ieee.{eq};
+ghost use Rattle.words.specs.Words.{valueAt};
 ghost use Rattle.rules.specs.Values.{values};
 ghost use Rattle.rules.specs.Search.{firstKey, keySearch, rangeIndex, rangeSearch, searched};
 
@@ -24,6 +25,19 @@ fn searched_at(i: usize, n: usize) -> Searched
     }
 }
 
+// The key at a place is x. A NaN pattern equals nothing, so it is passed over before it is turned into the one NaN.
+fn is_key_at(image: &[u8], at: usize, x: f64) -> bool
+    requires { ⌜ at + 8 ≤ length (now image) ⌝ }
+    ensures { λ r. ⌜ r ≡ eq (valueAt (now (image .entry)) at) x ⌝ }
+{
+    let word = words::u64_at(image, at);
+    if floats::is_nan_pattern(word) {
+        false
+    } else {
+        floats::from_bits(word) == x
+    }
+}
+
 fn key_index(image: &[u8], p: usize, n: usize, x: f64) -> usize
     requires { ⌜ p + n * 8 ≤ length (now image) ⌝ }
     ensures { λ r. ⌜ r ≡ firstKey (values (now (image .entry)) p n) x ⌝ }
@@ -31,7 +45,7 @@ fn key_index(image: &[u8], p: usize, n: usize, x: f64) -> usize
     let mut i = 0;
     let mut at = p;
     while i < n {
-        if value_at(image, at) == x {
+        if is_key_at(image, at, x) {
             return i;
         }
         at += 8;
@@ -58,7 +72,7 @@ fn range_index(image: &[u8], p: usize, n: usize, whole: bool, x: f64) -> usize
     let mut i = 0;
     let mut at = p;
     while i < pairs {
-        if is_held(whole, value_at(image, at), value_at(image, at + 8), x) {
+        if is_held_at(image, at, whole, x) {
             return i;
         }
         at += 16;

@@ -1,10 +1,10 @@
 // Tables of pairs, interpolated or nearest, and range to value. Carries over table_lookup.rs.
 use crate::number::value_at;
 ghost use mathlib.Core.Path.{_≡_};
-ghost use mathlib.Core.Bool.{_&&_};
+ghost use mathlib.Core.Bool.{_&&_, cond};
 ghost use Prim.Native.Nat.{_+_, _*_, _≤_};
 ghost use lib.ListN.{length};
-ghost use lib.Ieee.{le};
+ghost use lib.Ieee.{le, lt};
 ghost use Rattle.words.specs.Words.{valueAt};
 ghost use Rattle.rules.specs.Values.{values};
 ghost use Rattle.rules.specs.Table.{between, scan, table, holds, rangeValue};
@@ -73,12 +73,31 @@ pub fn apply_table(image: &[u8], p: usize, n: usize, near: bool, x: f64) -> f64
     apply_scan(image, p, n / 2 - 1, near, x)
 }
 
-// A range holds x; its upper bound is in it for integers, and not for floats.
-pub fn is_held(whole: bool, low: f64, high: f64, x: f64) -> bool
-    ensures { λ r. ⌜ r ≡ holds whole low high x ⌝ }
+// x is under the upper bound at a place, which is in the range for integers, and not for floats. Nothing is under a NaN pattern, so it is
+// passed over before it is turned into the one NaN; what is above the bound needs no look at which of the two it is.
+fn is_under_at(image: &[u8], at: usize, whole: bool, x: f64) -> bool
+    requires { ⌜ at + 8 ≤ length (now image) ⌝ }
+    ensures { λ r. ⌜ r ≡ cond whole (le x (valueAt (now (image .entry)) at)) (lt x (valueAt (now (image .entry)) at)) ⌝ }
 {
-    if low <= x {
-        if whole { x <= high } else { x < high }
+    let word = words::u64_at(image, at);
+    if floats::is_nan_pattern(word) {
+        return false;
+    }
+    let high = floats::from_bits(word);
+    if x <= high {
+        if whole { true } else { x < high }
+    } else {
+        false
+    }
+}
+
+// The range at a place holds x. Most ranges fail by their upper bound, so it is tested first, and the lower one is read only where it holds.
+pub fn is_held_at(image: &[u8], at: usize, whole: bool, x: f64) -> bool
+    requires { ⌜ at + 16 ≤ length (now image) ⌝ }
+    ensures { λ r. ⌜ r ≡ holds whole (valueAt (now (image .entry)) at) (valueAt (now (image .entry)) (at + 8)) x ⌝ }
+{
+    if is_under_at(image, at + 8, whole, x) {
+        value_at(image, at) <= x
     } else {
         false
     }
@@ -97,7 +116,7 @@ pub fn apply_range_value(image: &[u8], p: usize, n: usize, whole: bool, x: f64) 
     let mut at = p;
     let mut left = n;
     while 1 < left {
-        if is_held(whole, value_at(image, at), value_at(image, at + 8), x) {
+        if is_held_at(image, at, whole, x) {
             return value_at(image, at + 16);
         }
         at += 24;

@@ -1,4 +1,4 @@
--- A block that was opened fits its image. Assumes nothing.
+-- A block that is seen whole fits its image. Assumes nothing.
 use mathlib.Core.Path.{_≡_, refl, subst}
 use mathlib.Core.Bool.{Bool, true, false, cond}
 use mathlib.Core.List.{List}
@@ -8,21 +8,23 @@ use borrow.Author.Tests.{leb-true}
 use lib.Dec.{leb}
 use lib.ListN.{length}
 use Rattle.blocks.specs.Block.{refCount, fieldsPlace, fieldsAt, valCount, valuesPlace, blockEnd, blockAt, opened}
+use Rattle.blocks.specs.View.{viewOf, seenOf, seen}
 use Rattle.blocks.specs.declared.Block.{Block}
 use Rattle.blocks.specs.declared.Parsed.the-variants.{Whole, Refused}
+use Rattle.blocks.specs.declared.view.View.{View}
+use Rattle.blocks.specs.declared.view.Seen.the-variants.{Open}
 use Rattle.common.specs.declared.refusal.Refusal.{Refusal}
 use Rattle.steps.specs.Fits.{Fits}
 
-test : (x : Bool) (b c : Block) (r : Refusal) → cond x (Whole c) (Refused r) ≡ Whole b → (x ≡ true) × (c ≡ b)
-test true b c r e = (refl, (cc))
-test false b c r e = let z : _≡_ {A = ℕ} 0 1 = cc in absurd (omega arith)
+test : (img : List ℕ) (x : Bool) (b : View) (c : Block) (r : Refusal) → (x ≡ true → Fits img (viewOf c)) → seenOf (cond x (Whole c) (Refused r)) ≡ Open b → Fits img b
+test img true b c r h e = let same : viewOf c ≡ b = cc in subst (Fits img) same (h refl)
+test img false b c r h e = let z : _≡_ {A = ℕ} 0 1 = cc in absurd (omega arith)
 
-at-fits : (img : List ℕ) (a : ℕ) → blockEnd img a ≤ length img → Fits img (blockAt img a)
+at-fits : (img : List ℕ) (a : ℕ) → blockEnd img a ≤ length img → Fits img (viewOf (blockAt img a))
 unfolding blockEnd valuesPlace fieldsPlace refCount valCount blockAt fieldsAt
 at-fits img a h = (omega arith, omega arith)
 
-pub opened-fits : (img : List ℕ) (a : ℕ) (b : Block) → opened img a ≡ Whole b → Fits img b
-unfolding opened
-opened-fits img a b e =
-    let t = test (leb (blockEnd img a) (length img)) b (blockAt img a) _ e in
-    subst (Fits img) (t .1) (at-fits img a (leb-true (blockEnd img a) (length img) (t .0)))
+pub seen-fits : (img : List ℕ) (a : ℕ) (b : View) → seen img a ≡ Open b → Fits img b
+unfolding seen opened
+seen-fits img a b e =
+    test img (leb (blockEnd img a) (length img)) b (blockAt img a) _ (λ t. at-fits img a (leb-true (blockEnd img a) (length img) t)) e

@@ -9,7 +9,7 @@ use types.Run.{OneOf, miss}
 use Rattle.common.specs.declared.types.ConversionType.{ConversionType}
 use Rattle.common.specs.declared.types.ConversionType.the-variants as kind
 use Rattle.common.proofs.types.ConversionType as kinds
-use Rattle.blocks.specs.declared.Block.{Block}
+use Rattle.blocks.specs.declared.view.View.{View}
 use Rattle.leads.specs.declared.lead.Lead.{Lead}
 use Rattle.leads.specs.declared.lead.Lead.the-variants as lead
 use Rattle.leads.proofs.lead.Lead as leads
@@ -61,7 +61,7 @@ no-rule kind.TextToText whole vs x h = refl
 no-rule kind.BitGroups whole vs x h = refl
 no-rule (kind.Unknown n) whole vs x h = refl
 
-module _ (mode : Mode) (img t : List ℕ) (b : Block) (v : Value) where
+module _ (mode : Mode) (img t : List ℕ) (b : View) (v : Value) where
   pub plain-type : (k : ConversionType) → OneOf (0 ∷ 1 ∷ 2 ∷ 3 ∷ 4 ∷ 5 ∷ 6 ∷ 12 ∷ []) (tagOf kinds.the-type k)
       → typed mode img t b v k ≡ step.Done (numbered k (values img (b .firstval) (b .valcount)) (taken v))
   plain-type kind.Identity h = refl

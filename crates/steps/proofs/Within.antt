@@ -7,8 +7,8 @@ use Rattle.common.specs.declared.types.ConversionType.{ConversionType}
 use Rattle.common.specs.declared.types.ConversionType.the-variants as kind
 use Rattle.common.specs.declared.refusal.Word.{Word}
 use Rattle.common.specs.declared.refusal.Word.the-variants.{Bits, NoWord}
-use Rattle.blocks.specs.Place.{valueOf}
-use Rattle.blocks.specs.declared.Block.{Block}
+use Rattle.blocks.specs.View.{valueIn}
+use Rattle.blocks.specs.declared.view.View.{View}
 use Rattle.blocks.specs.declared.Number.{Number}
 use Rattle.blocks.specs.declared.Number.the-variants as found
 use Rattle.leads.specs.Lead.{Inside}
@@ -26,7 +26,7 @@ use Rattle.steps.specs.declared.mode.Edition.{Edition}
 use Rattle.steps.specs.declared.mode.Edition.the-variants.{Mdf410, Mdf420}
 
 module _ (img : List ℕ) where
-  pub translated-inside : (b : Block) (t : List ℕ) → Inside img (translated img b t)
+  pub translated-inside : (b : View) (t : List ℕ) → Inside img (translated img b t)
   unfolding translated
   translated-inside b t = lead-at-inside img b _
 
@@ -53,14 +53,14 @@ module _ (img : List ℕ) where
   or-unknown-in (found.Value x) = tt
   or-unknown-in found.NoValue = tt
 
-  pub value-in : (b : Block) (t : List ℕ) (text : Bool) → PlainIn img (textToValue img b t text)
-  value-in b t true = or-unknown-in (valueOf img b (valueKey img b t))
+  pub value-in : (b : View) (t : List ℕ) (text : Bool) → PlainIn img (textToValue img b t text)
+  value-in b t true = or-unknown-in (valueIn img b (valueKey img b t))
   value-in b t false = tt
 
-  grouped-by : (e : Edition) (b : Block) (w : Word) → Fits img b → StepIn img (groupedIn e b w)
+  grouped-by : (e : Edition) (b : View) (w : Word) → Fits img b → StepIn img (groupedIn e b w)
   grouped-by Mdf410 b w h = tt
   grouped-by Mdf420 b (Bits bits) h = h
   grouped-by Mdf420 b NoWord h = tt
 
-  pub grouped-in : (mode : Mode) (b : Block) (v : Value) → Fits img b → StepIn img (grouped mode b v)
+  pub grouped-in : (mode : Mode) (b : View) (v : Value) → Fits img b → StepIn img (grouped mode b v)
   grouped-in mode b v h = grouped-by (mode .edition) b (bitsOf mode v) h

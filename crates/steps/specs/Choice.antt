@@ -5,7 +5,7 @@ use mathlib.Core.Bool.{Bool, true, false, cond}
 use mathlib.Core.List.{List}
 use lib.Dec.{ltb}
 use lib.ListN.{length}
-use Rattle.blocks.specs.declared.Block.{Block}
+use Rattle.blocks.specs.declared.view.View.{View}
 use Rattle.leads.specs.Lead.{leadAt}
 use Rattle.leads.specs.declared.lead.Lead.{Lead}
 use Rattle.leads.specs.declared.lead.Lead.the-variants as lead
@@ -27,11 +27,11 @@ ifConversion lead.Nil = Done plain.Unchanged
 ifConversion lead.Elsewhere = Done plain.Unchanged
 
 -- the default conversion: the last of more than two references, if it is a ##CC; failing that Unchanged
-unfoldable pub lastReference : List ℕ → Block → Choice
-lastReference img b = cond (ltb 2 (b .links - 4)) (ifConversion (leadAt img b (b .links - 4 - 1))) (Done plain.Unchanged)
+unfoldable pub lastReference : List ℕ → View → Choice
+lastReference img b = cond (ltb 2 (b .refs)) (ifConversion (leadAt img b (b .refs - 1))) (Done plain.Unchanged)
 
 -- only type 8 has a default conversion
-abbrev pub defaultOf : List ℕ → Block → Bool → Choice
+abbrev pub defaultOf : List ℕ → View → Bool → Choice
 defaultOf img b true = lastReference img b
 defaultOf img b false = Done plain.Unchanged
 
@@ -44,16 +44,16 @@ decided lead.Nil false default = default
 decided lead.Elsewhere matched default = default
 
 -- the reference at the index decides
-abbrev pub followed : List ℕ → Block → Searched → Bool → Choice
+abbrev pub followed : List ℕ → View → Searched → Bool → Choice
 followed img b (Matched i) hasDefault = decided (leadAt img b i) true (defaultOf img b hasDefault)
 followed img b (Unmatched i) hasDefault = decided (leadAt img b i) false (defaultOf img b hasDefault)
 
 -- value to text, and range to text: text is left unchanged, and so is a value of kind "other"
-abbrev pub chosenKey : List ℕ → Block → Taken → Choice
+abbrev pub chosenKey : List ℕ → View → Taken → Choice
 chosenKey img b (took.Number x whole) = followed img b (keySearch (values img (b .firstval) (b .valcount)) x) false
 chosenKey img b took.NoNumber = Done plain.Unchanged
 
-abbrev pub chosenRange : List ℕ → Block → Taken → Choice
+abbrev pub chosenRange : List ℕ → View → Taken → Choice
 chosenRange img b (took.Number x whole) = followed img b (rangeSearch whole (values img (b .firstval) (b .valcount)) x) true
 chosenRange img b took.NoNumber = Done plain.Unchanged
 

@@ -6,8 +6,8 @@ use lib.ListN.{length}
 use lib.Ieee.{Float}
 use Rattle.common.specs.declared.types.ConversionType.{ConversionType}
 use Rattle.common.specs.declared.types.ConversionType.the-variants as kind
-use Rattle.blocks.specs.Place.{valueOf}
-use Rattle.blocks.specs.declared.Block.{Block}
+use Rattle.blocks.specs.View.{valueIn}
+use Rattle.blocks.specs.declared.view.View.{View}
 use Rattle.blocks.specs.declared.Number.{Number as Found}
 use Rattle.blocks.specs.declared.Number.the-variants.{Value as value, NoValue}
 use Rattle.leads.specs.Keys.{valueKey, translated}
@@ -56,8 +56,8 @@ orUnknown (value x) = Number x
 orUnknown NoValue = Unknown
 
 -- text to value: the first reference i whose text equals the input gives value i; no match: the value at the number of references
-abbrev pub textToValue : List ℕ → Block → List ℕ → Bool → Plain
-textToValue img b t true = orUnknown (valueOf img b (valueKey img b t))
+abbrev pub textToValue : List ℕ → View → List ℕ → Bool → Plain
+textToValue img b t true = orUnknown (valueIn img b (valueKey img b t))
 textToValue img b t false = Unchanged
 
 -- the text that a reference leads to, or Unchanged
@@ -68,11 +68,11 @@ orUnchanged lead.Nil = Unchanged
 orUnchanged lead.Elsewhere = Unchanged
 
 -- text to text: the first equal key's output, or the text at twice the pair count
-abbrev pub textToText : List ℕ → Block → List ℕ → Bool → Plain
+abbrev pub textToText : List ℕ → View → List ℕ → Bool → Plain
 textToText img b t true = orUnchanged (translated img b t)
 textToText img b t false = Unchanged
 
--- a part of the image lies in it
+-- the run of a text lies in the image
 abbrev pub PlainIn : List ℕ → Plain → Type 0
 PlainIn img (Number x) = Unit {0}
 PlainIn img (Words from to) = (from ≤ to) × (to ≤ length img)

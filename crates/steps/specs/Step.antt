@@ -6,10 +6,10 @@ use Rattle.common.specs.declared.types.ConversionType.{ConversionType}
 use Rattle.common.specs.declared.types.ConversionType.the-variants as kind
 use Rattle.common.specs.declared.refusal.Word.{Word}
 use Rattle.common.specs.declared.refusal.Word.the-variants.{Bits, NoWord}
-use Rattle.blocks.specs.Block.{opened}
-use Rattle.blocks.specs.declared.Block.{Block}
-use Rattle.blocks.specs.declared.Parsed.{Parsed}
-use Rattle.blocks.specs.declared.Parsed.the-variants.{Whole, Refused}
+use Rattle.blocks.specs.View.{seen}
+use Rattle.blocks.specs.declared.view.View.{View}
+use Rattle.blocks.specs.declared.view.Seen.{Seen}
+use Rattle.blocks.specs.declared.view.Seen.the-variants.{Open, Cut}
 use Rattle.rules.specs.Values.{values}
 use Rattle.rules.specs.Numbers.{taken}
 use Rattle.rules.specs.declared.number.Value.{Value}
@@ -24,20 +24,20 @@ use Rattle.steps.specs.declared.step.Step.{Step}
 use Rattle.steps.specs.declared.step.Step.the-variants.{ByKey, ByRange, ByBits, Done}
 
 -- type 11 leaves all but integers unchanged
-abbrev pub groupedBits : Block → Word → Step
+abbrev pub groupedBits : View → Word → Step
 groupedBits b (Bits bits) = ByBits b bits
 groupedBits b NoWord = Done plain.Unchanged
 
 -- edition 4.10 does not know type 11
-abbrev pub groupedIn : Edition → Block → Word → Step
+abbrev pub groupedIn : Edition → View → Word → Step
 groupedIn Mdf410 b w = Done plain.Unchanged
 groupedIn Mdf420 b w = groupedBits b w
 
-abbrev pub grouped : Mode → Block → Value → Step
+abbrev pub grouped : Mode → View → Value → Step
 grouped mode b v = groupedIn (mode .edition) b (bitsOf mode v)
 
 -- by its type: the types that go on to other blocks, and those that do not
-abbrev pub typed : Mode → List ℕ → List ℕ → Block → Value → ConversionType → Step
+abbrev pub typed : Mode → List ℕ → List ℕ → View → Value → ConversionType → Step
 typed mode img t b v kind.Identity = Done (numbered kind.Identity (values img (b .firstval) (b .valcount)) (taken v))
 typed mode img t b v kind.Linear = Done (numbered kind.Linear (values img (b .firstval) (b .valcount)) (taken v))
 typed mode img t b v kind.Rational = Done (numbered kind.Rational (values img (b .firstval) (b .valcount)) (taken v))
@@ -53,12 +53,12 @@ typed mode img t b v kind.BitGroups = grouped mode b v
 typed mode img t b v (kind.Unknown n) = Done (numbered (kind.Unknown n) (values img (b .firstval) (b .valcount)) (taken v))
 
 -- a block that the image cuts off cannot be opened
-abbrev pub unlessCut : Mode → List ℕ → List ℕ → Value → Parsed → Step
-unlessCut mode img t v (Whole b) = typed mode img t b v (typeOf (b .kind))
-unlessCut mode img t v (Refused r) = Done plain.Broken
+abbrev pub unlessCut : Mode → List ℕ → List ℕ → Value → Seen → Step
+unlessCut mode img t v (Open b) = typed mode img t b v (typeOf (b .kind))
+unlessCut mode img t v Cut = Done plain.Broken
 
 unfoldable pub stepOf : Mode → List ℕ → List ℕ → ℕ → Value → Step
-stepOf mode img t a v = unlessCut mode img t v (opened img a)
+stepOf mode img t a v = unlessCut mode img t v (seen img a)
 
 -- what the next step reads lies in the image
 abbrev pub StepIn : List ℕ → Step → Type 0

@@ -1,7 +1,7 @@
 // Types 7 and 8: a search, and then the reference at the index decides. Carries over the part of `apply_value_to_text` and
 // `apply_range_to_text` in text.rs that asks no other block.
 use crate::plain::Plain;
-use blocks::Block;
+use blocks::view::View;
 use leads::lead::Lead;
 use leads::lead::lead_at;
 use rules::number::Taken;
@@ -23,10 +23,10 @@ pub enum Choice {
 }
 
 // The default conversion, which only type 8 has: the last of more than two references, if it is a ##CC.
-fn default_of(image: &[u8], b: Block, fallback: bool) -> Choice
+fn default_of(image: &[u8], b: View, fallback: bool) -> Choice
     ensures { λ r. ⌜ (r ≡ defaultOf (now (image .entry)) b fallback) × ChoiceIn (now (image .entry)) r ⌝ }
 {
-    let refs = b.reference_count();
+    let refs = b.refs;
     if fallback {
         if 2 < refs {
             return match lead_at(image, b, refs - 1) {
@@ -38,7 +38,7 @@ fn default_of(image: &[u8], b: Block, fallback: bool) -> Choice
     Choice::Done(Plain::Unchanged)
 }
 
-fn decide(image: &[u8], b: Block, lead: Lead, matched: bool, fallback: bool) -> Choice
+fn decide(image: &[u8], b: View, lead: Lead, matched: bool, fallback: bool) -> Choice
     requires { ⌜ Inside (now image) lead ⌝ }
     ensures { λ r. ⌜ (r ≡ decided lead matched (defaultOf (now (image .entry)) b fallback)) × ChoiceIn (now (image .entry)) r ⌝ }
 {
@@ -56,7 +56,7 @@ fn decide(image: &[u8], b: Block, lead: Lead, matched: bool, fallback: bool) -> 
 }
 
 // The reference at the index decides.
-fn follow(image: &[u8], b: Block, s: Searched, fallback: bool) -> Choice
+fn follow(image: &[u8], b: View, s: Searched, fallback: bool) -> Choice
     ensures { λ r. ⌜ (r ≡ followed (now (image .entry)) b s fallback) × ChoiceIn (now (image .entry)) r ⌝ }
 {
     match s {
@@ -66,7 +66,7 @@ fn follow(image: &[u8], b: Block, s: Searched, fallback: bool) -> Choice
 }
 
 // Type 7, which has no default conversion.
-pub fn chosen_key(image: &[u8], b: Block, v: Value) -> Choice
+pub fn chosen_key(image: &[u8], b: View, v: Value) -> Choice
     requires { ⌜ Fits (now image) b ⌝ }
     ensures { λ r. ⌜ (r ≡ chosenKey (now (image .entry)) b (taken v)) × ChoiceIn (now (image .entry)) r ⌝ }
 {
@@ -80,7 +80,7 @@ pub fn chosen_key(image: &[u8], b: Block, v: Value) -> Choice
 }
 
 // Type 8.
-pub fn chosen_range(image: &[u8], b: Block, v: Value) -> Choice
+pub fn chosen_range(image: &[u8], b: View, v: Value) -> Choice
     requires { ⌜ Fits (now image) b ⌝ }
     ensures { λ r. ⌜ (r ≡ chosenRange (now (image .entry)) b (taken v)) × ChoiceIn (now (image .entry)) r ⌝ }
 {

@@ -1,7 +1,7 @@
 // The rules that ask no other block: types 0 to 6, 9 and 10, and unknown. Carries over `apply_decoded` of logic.rs for these, and
 // `apply_text_to_value` and `apply_text_to_text` of text.rs.
-use blocks::Block;
 use blocks::Number;
+use blocks::view::View;
 use common::types::ConversionType;
 use leads::keys::translate;
 use leads::keys::value_key;
@@ -23,7 +23,7 @@ ghost use Rattle.steps.specs.Fits.{Fits};
 // An answer that needs no other block. `Formula` and `Broken` stop the application: a formula is met, or a block cannot be opened.
 pub enum Plain {
     Number(f64),
-    // A part of the image.
+    // A text, by where it may run in the image; it ends at the first zero byte there.
     Words(usize, usize),
     Unchanged,
     Unknown,
@@ -32,7 +32,7 @@ pub enum Plain {
 }
 
 // Types 1 to 6 of a number x, which came from an integer where `whole` is true.
-fn by_number(image: &[u8], b: Block, kind: ConversionType, whole: bool, x: f64) -> Plain
+fn by_number(image: &[u8], b: View, kind: ConversionType, whole: bool, x: f64) -> Plain
     requires { ⌜ Fits (now image) b ⌝ }
     ensures { λ r. ⌜ r ≡ byNumber kind whole (values (now (image .entry)) (b .firstval) (b .valcount)) x ⌝ }
 {
@@ -50,7 +50,7 @@ fn by_number(image: &[u8], b: Block, kind: ConversionType, whole: bool, x: f64) 
 }
 
 // Types 0 to 6 and unknown: only a number is changed.
-pub fn number_rule(image: &[u8], b: Block, kind: ConversionType, v: Value) -> Plain
+pub fn number_rule(image: &[u8], b: View, kind: ConversionType, v: Value) -> Plain
     requires { ⌜ Fits (now image) b ⌝ }
     ensures { λ r. ⌜ r ≡ numbered kind (values (now (image .entry)) (b .firstval) (b .valcount)) (taken v) ⌝ }
 {
@@ -70,7 +70,7 @@ fn is_text(v: Value) -> bool
 }
 
 // Type 9: the first reference whose text equals the input gives its value.
-pub fn text_to_value(image: &[u8], b: Block, v: Value, text: &[u8]) -> Plain
+pub fn text_to_value(image: &[u8], b: View, v: Value, text: &[u8]) -> Plain
     requires { ⌜ Fits (now image) b ⌝ }
     ensures { λ r. ⌜ r ≡ textToValue (now (image .entry)) b (now (text .entry)) (isText v) ⌝ }
 {
@@ -85,7 +85,7 @@ pub fn text_to_value(image: &[u8], b: Block, v: Value, text: &[u8]) -> Plain
 }
 
 // Type 10: the chosen output text, or the input as it is.
-pub fn text_to_text(image: &[u8], b: Block, v: Value, text: &[u8]) -> Plain
+pub fn text_to_text(image: &[u8], b: View, v: Value, text: &[u8]) -> Plain
     requires { ⌜ Fits (now image) b ⌝ }
     ensures { λ r. ⌜ (r ≡ textToText (now (image .entry)) b (now (text .entry)) (isText v)) × PlainIn (now (image .entry)) r ⌝ }
 {

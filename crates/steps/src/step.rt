@@ -6,8 +6,8 @@ use crate::plain::Plain;
 use crate::plain::number_rule;
 use crate::plain::text_to_text;
 use crate::plain::text_to_value;
-use blocks::Block;
-use blocks::Parsed;
+use blocks::view::Seen;
+use blocks::view::View;
 use common::refusal::Word;
 use common::types::ConversionType;
 use rules::number::Value;
@@ -20,14 +20,14 @@ ghost use Rattle.steps.specs.Step.{grouped, typed, stepOf, StepIn};
 
 // Types 7, 8 and 11 go on to other blocks; bit groups take the bits that reach the masks.
 pub enum Step {
-    ByKey(Block),
-    ByRange(Block),
-    ByBits(Block, u64),
+    ByKey(View),
+    ByRange(View),
+    ByBits(View, u64),
     Done(Plain),
 }
 
 // Type 11, which edition 4.10 does not know, and which leaves all but integers unchanged.
-fn groups(mode: Mode, b: Block, v: Value) -> Step
+fn groups(mode: Mode, b: View, v: Value) -> Step
     ensures { λ r. ⌜ r ≡ grouped mode b v ⌝ }
 {
     let edition = mode.edition;
@@ -40,7 +40,7 @@ fn groups(mode: Mode, b: Block, v: Value) -> Step
     }
 }
 
-fn by_type(mode: Mode, image: &[u8], b: Block, v: Value, text: &[u8]) -> Step
+fn by_type(mode: Mode, image: &[u8], b: View, v: Value, text: &[u8]) -> Step
     requires { ⌜ Fits (now image) b ⌝ }
     ensures { λ r. ⌜ (r ≡ typed mode (now (image .entry)) (now (text .entry)) b v (typeOf (b .kind))) × StepIn (now (image .entry)) r ⌝ }
 {
@@ -60,8 +60,8 @@ pub fn step_at(mode: Mode, image: &[u8], at: u64, v: Value, text: &[u8]) -> Step
     requires { ⌜ at + 24 ≤ length (now image) ⌝ }
     ensures { λ r. ⌜ (r ≡ stepOf mode (now (image .entry)) (now (text .entry)) at v) × StepIn (now (image .entry)) r ⌝ }
 {
-    match Block::read(image, at as usize) {
-        Parsed::Whole(b) => by_type(mode, image, b, v, text),
-        Parsed::Refused(_) => Step::Done(Plain::Broken),
+    match View::look(image, at as usize) {
+        Seen::Open(b) => by_type(mode, image, b, v, text),
+        Seen::Cut => Step::Done(Plain::Broken),
     }
 }

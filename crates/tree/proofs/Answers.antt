@@ -2,7 +2,7 @@
 use mathlib.Core.Path.{_≡_, refl, sym, ap, _∙_}
 use mathlib.Core.Bool.{Bool, true, false}
 use mathlib.Core.Logic.{_⊎_, inl, inr, ⊎-elim}
-use mathlib.Core.List.{List, [], _∷_, _++_}
+use mathlib.Core.List.{List, _∷_, _++_}
 use Prim.Native.Nat.{ℕ, suc, _+_, _-_, _≤_, _<_}
 use native.Mathlib.Nat.{add-zero}
 use native.Mathlib.Omega.{arith}
@@ -10,11 +10,8 @@ use borrow.Author.Tests.{ltb-true, ltb-false, lt-ltb, le-ltb}
 use lib.Dec.{ltb}
 use lib.ListN.{length, getD, length-append, List·getD-append}
 use lib.Seq.{getD-append-add}
-use Rattle.common.specs.declared.refusal.Refusal.{Refusal}
-use Rattle.common.specs.declared.refusal.Refusal.the-variants.{Limit, Loop}
-use Rattle.tree.specs.Walk.{Walk, Fault, loop, End, complete, fault, nothing, stopped, visit, onward, andThen, followed, walkLinks, refusalOf, ended, answer}
-use Rattle.tree.specs.declared.Link.{Link}
-use Rattle.tree.specs.declared.Link.the-variants.{Nowhere, Back, Nested}
+use Rattle.common.specs.declared.refusal.Refusal.the-variants.{Limit}
+use Rattle.tree.specs.Walk.{Walk, Fault, End, complete, fault, nothing, stopped, visit, onward, andThen, refusalOf, ended, answer}
 use Rattle.tree.specs.declared.Checked.{Checked}
 use Rattle.tree.specs.declared.Checked.the-variants.{Accepted, Unsound}
 
@@ -126,20 +123,13 @@ accepted l v w n p =
 pub answer-within : (l v : ℕ) (w : Walk) (n : ℕ) → v ≤ l → answer l v w ≡ Accepted n → n ≤ l
 answer-within l v w n h p = let a = accepted l v w n p in omega (arith, a .0, a .2)
 
--- ---- one reference of a block, by where it leads
-module _ (f : ℕ → Walk) (k : ℕ → Link) (r : ℕ) (rs : List ℕ) (l v : ℕ) where
-  abbrev stepping : Link → Checked
-  stepping x = answer l v (andThen (followed f x r) (walkLinks f k rs))
+-- a complete walk that fits the limit is accepted
+pub answer-fits : (l v : ℕ) (w : Walk) → w .ending ≡ complete → length (w .visits) ≤ l - v → answer l v w ≡ Accepted (v + length (w .visits))
+answer-fits l v w e h = under l v w h ∙ ap (ended (v + length (w .visits))) e
 
-  pub step-nowhere : k r ≡ Nowhere → answer l v (walkLinks f k (r ∷ rs)) ≡ answer l v (walkLinks f k rs)
-  unfolding walkLinks
-  step-nowhere e = ap stepping e
-
-  pub step-back : k r ≡ Back → answer l v (walkLinks f k (r ∷ rs)) ≡ Unsound (Loop r)
-  unfolding walkLinks
-  step-back e = ap stepping e ∙ answer-stopped l v (loop r)
-
-  pub step-nested : v ≤ l → k r ≡ Nested
-      → answer l v (walkLinks f k (r ∷ rs)) ≡ after (answer l v (f r)) (λ n. answer l n (walkLinks f k rs))
-  unfolding walkLinks
-  step-nested h e = ap stepping e ∙ answer-then l v (f r) (walkLinks f k rs) h
+-- what was accepted once is accepted again after other visits, at the same cost, while the limit leaves it
+pub answer-again : (l v : ℕ) (w : Walk) (m u : ℕ) → answer l v w ≡ Accepted m → u + (m - v) ≤ l → answer l u w ≡ Accepted (u + (m - v))
+answer-again l v w m u p h =
+    let a = accepted l v w m p in
+    let count : u + length (w .visits) ≡ u + (m - v) = omega (arith, a .2) in
+    answer-fits l u w (a .1) (omega (arith, a .2)) ∙ ap Accepted count

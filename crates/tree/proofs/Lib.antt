@@ -1,5 +1,6 @@
 pub mod Paths
 pub mod Answers
+pub mod Following
 pub mod Blocks
 pub mod Checks
 pub mod Acceptance

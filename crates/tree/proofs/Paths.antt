@@ -8,11 +8,11 @@ use native.Mathlib.Numerals.{add-one}
 use native.Mathlib.Omega.{arith}
 use borrow.Author.Tests.{eq-eqb, ne-eqb, eqb-true, le-leb}
 use lib.Dec.{eqb}
-use lib.ListN.{length, getD, take, drop, drop-of-length-le}
-use lib.Seq.{drop-cons, getD-take, length-take-le}
+use lib.ListN.{length, getD, set, take, drop, drop-of-length-le}
+use lib.Seq.{drop-cons, getD-take, length-take-le, take-take, take-set-le, take-suc-set}
 use Rattle.common.specs.Header.{inside, isConversion}
 use Rattle.common.proofs.Headers.{inside-fits}
-use Rattle.tree.specs.Shape.{Standing}
+use Rattle.tree.specs.Follow.{Standing}
 use Rattle.tree.specs.Walk.{on, classed}
 use Rattle.tree.specs.declared.Link.the-variants.{Nowhere, Back, Nested}
 
@@ -38,6 +38,15 @@ unfolding on
 on-none x l n i le ge =
     let h : length (take n l) ≤ i = rw length-take-le ge in
     rw drop-of-length-le
+
+-- a block writes its own place, behind the path
+pub written : (l : List ℕ) (d a : ℕ) → d < length l → take (d + 1) (set l d a) ≡ take d l ++ (a ∷ [])
+written l d a h = rw (add-one, take-suc-set l d a h)
+
+-- and what keeps the path with its place keeps the path
+pub kept : (p l : List ℕ) (d a : ℕ) → take (d + 1) p ≡ take (d + 1) (set l d a) → take d p ≡ take d l
+kept p l d a e =
+    sym (take-take d (d + 1) p (omega arith)) ∙ ap (take d) e ∙ take-take d (d + 1) (set l d a) (omega arith) ∙ take-set-le d l d a (omega arith)
 
 -- a reference to a nested block leads to a header in the image
 pub nested-fits : (img path : List ℕ) (r : ℕ) → classed img path r ≡ Nested → r + 24 ≤ length img

@@ -1,4 +1,4 @@
 pub mod Walk
 pub mod Tree
 pub mod Images
-pub mod Shape
+pub mod Follow

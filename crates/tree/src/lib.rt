@@ -2,19 +2,19 @@
 // Carries over `resolve_all_dependencies_with_address` and its recursion in base.rs; the visit limit is added.
 //
 // The crate keeps a set of visited addresses and takes each out again when it is done with it: that is the path, at most 21 addresses.
+// It is one array for the whole walk: a block at depth d writes place d, and reads the places up to d.
 use blocks::Block;
-use blocks::Parsed;
+use blocks::view::Seen;
+use blocks::view::View;
 use common::header::Header;
 use common::refusal::Refusal;
 ghost use mathlib.Core.Path.{_≡_};
-ghost use mathlib.Core.List.{[], _∷_, _++_};
-ghost use Prim.Native.Nat.{_+_, _≤_, _<_};
-ghost use lib.ListN.{length, take};
-ghost use Rattle.blocks.specs.Block.{opened};
-ghost use Rattle.tree.specs.Walk.{on, classed, walk as walkOf, answer, checked};
-ghost use Rattle.tree.specs.Shape.{shapeOf, Standing};
-ghost use Rattle.common.specs.Header.{isConversion};
 ghost use mathlib.Core.Bool.{true};
+ghost use Prim.Native.Nat.{_+_, _-_, _≤_};
+ghost use lib.ListN.{length, take};
+ghost use Rattle.common.specs.Header.{isConversion};
+ghost use Rattle.tree.specs.Walk.{on, classed, walk as walkOf, answer, checked};
+ghost use Rattle.tree.specs.Follow.{Standing, Known, Led};
 
 // The number of visits begun, or the first refusal.
 pub enum Checked {
@@ -29,71 +29,50 @@ pub enum Link {
     Nested,
 }
 
-// A block that is whole, with the number of its references, or one that the image cuts off.
-pub enum Shape {
-    Uncut(u64),
-    Cut,
+// What a block's walk knows between two references: the visits begun so far, and the last reference that led to a nested block, with the visits
+// that it cost. Before there is one, `last` is NIL, which costs none.
+pub struct Tally {
+    pub visits: u32,
+    pub last: u64,
+    pub cost: u32,
 }
 
-// The addresses from the root down.
-pub struct Path {
-    pub at: [u64; 21],
-    pub len: usize,
+// The tally behind a reference, or the refusal met there.
+pub enum Step {
+    Go(Tally),
+    Stop(Refusal),
 }
 
-impl Path {
-    // The blocks on the longest path: depths 0 to 20.
-    pub const LEVELS: u32 = Block::DEPTH + 1;
+// The blocks on the longest path: depths 0 to 20.
+const LEVELS: usize = Block::DEPTH as usize + 1;
 
-    fn new() -> Path
-        ensures { λ r. ⌜ r .len ≡ 0 ⌝ }
-    {
-        Path {
-            at: [0u64; 21],
-            len: 0,
+// Whether one of the first n addresses is a.
+fn is_on(path: &[u64], n: usize, a: u64) -> bool
+    requires { ⌜ n ≤ length (now path) ⌝ }
+    ensures { λ r. ⌜ r ≡ on a (take n (now (path .entry))) ⌝ }
+{
+    let mut i = 0;
+    while i < n {
+        if path[i] == a {
+            return true;
         }
+        i += 1;
     }
-
-    // The path with one address more.
-    fn with(self, a: u64) -> Path
-        requires { ⌜ self .len < 21 ⌝ }
-        ensures { λ r. ⌜ (r .len ≡ self .len + 1) × (take (r .len) (r .at) ≡ take (self .len) (self .at) ++ (a ∷ [])) ⌝ }
-    {
-        let n = self.len;
-        let mut next = self;
-        next.at[n] = a;
-        next.len = n + 1;
-        next
-    }
-
-    fn has(self, a: u64) -> bool
-        requires { ⌜ self .len ≤ 21 ⌝ }
-        ensures { λ r. ⌜ r ≡ on a (take (self .len) (self .at)) ⌝ }
-    {
-        let n = self.len;
-        let mut i = 0;
-        while i < n {
-            if self.at[i] == a {
-                return true;
-            }
-            i += 1;
-        }
-        false
-    }
+    false
 }
 
-// The five steps of document 01 for a reference of a block whose path, itself included, is given. The path is asked last: each address on it is a
-// ##CC block's, so a reference that leads to none cannot be on it. References to texts, which are the most, cost no search.
-fn class(image: &[u8], path: Path, r: u64) -> Link
-    requires { ⌜ (path .len ≤ 21) × Standing (now image) (take (path .len) (path .at)) ⌝ }
-    ensures { λ k. ⌜ k ≡ classed (now (image .entry)) (take (path .len) (path .at)) r ⌝ }
+// The five steps of document 01 for a reference of a block whose path, itself included, is the first n addresses. The path is asked last: each
+// address on it is a ##CC block's, so a reference that leads to none cannot be on it. References to texts, which are the most, cost no search.
+fn class(image: &[u8], path: &[u64], n: usize, r: u64) -> Link
+    requires { ⌜ (n ≤ length (now path)) × Standing (now image) (take n (now path)) ⌝ }
+    ensures { λ k. ⌜ k ≡ classed (now (image .entry)) (take n (now (path .entry))) r ⌝ }
 {
     if r == 0 {
         return Link::Nowhere;
     }
     if Header::is_inside(image, r) {
         if Header::is_conversion(image, r as usize) {
-            if path.has(r) {
+            if is_on(path, n, r) {
                 return Link::Back;
             }
             return Link::Nested;
@@ -102,59 +81,82 @@ fn class(image: &[u8], path: Path, r: u64) -> Link
     Link::Nowhere
 }
 
-// The block at `at`, whose header lies in the image: only whether it is whole, and how many references it has.
-fn shape_at(image: &[u8], at: usize) -> Shape
-    requires { ⌜ at + 24 ≤ length (now image) ⌝ }
-    ensures { λ r. ⌜ r ≡ shapeOf (opened (now (image .entry)) at) ⌝ }
+// One reference of a block whose path, itself included, is the first `depth` addresses. The same reference again meets the same visits: they are
+// added and not walked, unless the limit ends among them, since then the refusal names the one it ends at.
+fn follow(image: &[u8], r: u64, path: &mut [u64], depth: usize, tally: Tally, limit: u32) -> Step
+    requires { ⌜ (length (now path) ≡ 21) × (depth ≤ 21) × (tally .visits ≤ limit) ⌝ }
+    requires { ⌜ Standing (now image) (take depth (now path)) × Known (21 - depth) (now image) (take depth (now path)) tally ⌝ }
+    ensures { λ s. ⌜ Led (21 - depth) (now (image .entry)) (take depth (now (path .entry))) r limit (tally .visits) s ⌝ }
+    ensures { λ s. ⌜ take depth (now (path .exit)) ≡ take depth (now (path .entry)) ⌝ }
 {
-    match Block::read(image, at) {
-        Parsed::Whole(b) => Shape::Uncut(b.reference_count()),
-        Parsed::Refused(_) => Shape::Cut,
+    match class(image, path, depth, r) {
+        Link::Nowhere => {
+            return Step::Go(tally);
+        }
+        Link::Back => {
+            return Step::Stop(Refusal::Loop(r));
+        }
+        Link::Nested => {}
+    }
+    if r == tally.last {
+        if tally.cost <= limit - tally.visits {
+            return Step::Go(Tally {
+                visits: tally.visits + tally.cost,
+                last: tally.last,
+                cost: tally.cost,
+            });
+        }
+    }
+    // A slice goes into a recursive call through memory. It is a copy that goes there, so that a reference that leads nowhere stores nothing.
+    let bytes = image;
+    match walk(bytes, r, path, depth, tally.visits, limit) {
+        Checked::Accepted(m) => Step::Go(Tally {
+            visits: m,
+            last: r,
+            cost: m - tally.visits,
+        }),
+        Checked::Unsound(x) => Step::Stop(x),
     }
 }
 
-// The ##CC block at `at`, below the blocks of `path`, with `left` levels left, after so many visits.
-fn walk(image: &[u8], at: u64, path: Path, left: u32, visits: u32, limit: u32) -> Checked
-    requires { ⌜ (at + 24 ≤ length (now image)) × (path .len + left ≤ 21) × (visits ≤ limit) ⌝ }
-    requires { ⌜ (isConversion (now image) at ≡ true) × Standing (now image) (take (path .len) (path .at)) ⌝ }
-    ensures { λ r. ⌜ r ≡ answer limit visits (walkOf left (now (image .entry)) (take (path .len) (path .at)) at) ⌝ }
+// The ##CC block at `at`, below the blocks of the first `depth` addresses, after so many visits.
+fn walk(image: &[u8], at: u64, path: &mut [u64], depth: usize, visits: u32, limit: u32) -> Checked
+    requires { ⌜ (length (now path) ≡ 21) × (depth ≤ 21) × (visits ≤ limit) ⌝ }
+    requires { ⌜ (at + 24 ≤ length (now image)) × (isConversion (now image) at ≡ true) × Standing (now image) (take depth (now path)) ⌝ }
+    ensures { λ r. ⌜ r ≡ answer limit visits (walkOf (21 - depth) (now (image .entry)) (take depth (now (path .entry))) at) ⌝ }
+    ensures { λ r. ⌜ take depth (now (path .exit)) ≡ take depth (now (path .entry)) ⌝ }
 {
     if visits == limit {
         return Checked::Unsound(Refusal::Limit(at));
     }
     let from = at as usize;
-    let Shape::Uncut(refs) = shape_at(image, from) else {
+    let Seen::Open(view) = View::look(image, from) else {
         return Checked::Unsound(Refusal::Short(at));
     };
-    if left == 0 {
+    if depth == LEVELS {
         return Checked::Unsound(Refusal::Deep(at));
     }
-    let inner = path.with(at);
-    let mut n = visits + 1;
+    path[depth] = at;
+    let refs = view.refs;
+    let mut tally = Tally {
+        visits: visits + 1,
+        last: 0,
+        cost: 0,
+    };
     let mut i = 0;
     while i < refs {
         let r = words::u64_at(image, from + 56 + 8 * (i as usize));
-        let k = class(image, inner, r);
-        match k {
-            Link::Nowhere => {}
-            Link::Back => {
-                return Checked::Unsound(Refusal::Loop(r));
+        match follow(image, r, path, depth + 1, tally, limit) {
+            Step::Go(next) => {
+                tally = next;
             }
-            Link::Nested => {
-                let w = walk(image, r, inner, left - 1, n, limit);
-                match w {
-                    Checked::Accepted(m) => {
-                        n = m;
-                    }
-                    Checked::Unsound(x) => {
-                        return Checked::Unsound(x);
-                    }
-                }
+            Step::Stop(x) => {
+                return Checked::Unsound(x);
             }
         }
         i += 1;
     }
-    Checked::Accepted(n)
+    Checked::Accepted(tally.visits)
 }
 
 // The check of the tree at an address, with at most `limit` visits.
@@ -163,7 +165,8 @@ pub fn check(image: &[u8], address: u64, limit: u32) -> Checked
 {
     if Header::is_inside(image, address) {
         if Header::is_conversion(image, address as usize) {
-            walk(image, address, Path::new(), Path::LEVELS, 0, limit)
+            let mut path = [0u64; 21];
+            walk(image, address, &mut path, 0, 0, limit)
         } else {
             Checked::Unsound(Refusal::NotConversion(address))
         }

@@ -1,12 +1,8 @@
 -- `tree::check` meets its contract. Assumes nothing.
-use mathlib.Core.Path.{sym, ap, subst, _∙_}
-use Prim.Native.Nat.{ℕ}
+use mathlib.Core.Path.{refl, sym, _∙_}
 use native.Mathlib.Omega.{arith}
-use lib.ListN.{take}
 use denote.Ref.{now}
 use Rattle.common.proofs.Headers.{inside-fits}
-use Rattle.tree.specs.Walk.{answer, walk}
-use Rattle.tree.specs.Shape.{Standing}
 use Rattle.tree.proofs.Paths.{standing-none}
 use Rattle.tree.proofs.Checks.{checked-outside, checked-other, checked-walk}
 use borrow.Author.Needs.{needs}
@@ -21,28 +17,23 @@ is-conversion-requires c κs =
     let a = c .before .before .before .args in
     inside-fits (now (a .image)) (a .address) cc
 
-new-requires : tie.Need-new-requires
-new-requires c κs = search needs
+slice-aggregate-walk : tie.Need-slice-aggregate-walk
+slice-aggregate-walk c = search needs
 
 walk-requires : tie.Need-walk-requires
 walk-requires c κs =
     let a = c .before .before .before .before .before .before .args in
     let img = now (a .image) in
-    let root = c .new .result in
-    let none = subst (λ (m : ℕ). Standing img (take m (root .at))) (sym (c .new .ensures)) (standing-none img) in
-    let inner = inside-fits img (a .address) (sym (c .before .before .before .before .is-inside .ensures) ∙ c .before .before .before .if1 .taken) in
-    ((inner, omega arith, omega arith), (sym (c .before .before .is-conversion .ensures) ∙ c .before .if2 .taken, none))
+    let fits = inside-fits img (a .address) (sym (c .before .before .before .before .is-inside .ensures) ∙ c .before .before .before .if1 .taken) in
+    ((refl, omega arith, omega arith), (fits, sym (c .before .before .is-conversion .ensures) ∙ c .before .if2 .taken, standing-none img))
 
 returns : tie.Need-returns
 returns c =
-    let a = c .before .before .before .before .before .before .before .args in
-    let img = now (a .image) in
-    let root = c .before .new .result in
-    c .walk .ensures
-    ∙ ap (λ (m : ℕ). answer (a .limit) 0 (walk 21 img (take m (root .at)) (a .address))) (c .before .new .ensures)
+    let a = c .before .before .before .before .before .before .before .before .args in
+    c .before .walk .ensures .0
     ∙ sym
-    (checked-walk img (a .address) (a .limit) (sym (c .before .before .before .before .before .is-inside .ensures) ∙ c .before .before .before .before .if1 .taken)
-    (sym (c .before .before .before .is-conversion .ensures) ∙ c .before .before .if2 .taken))
+    (checked-walk (now (a .image)) (a .address) (a .limit) (sym (c .before .before .before .before .before .before .is-inside .ensures) ∙ c .before .before .before .before .before .if1 .taken)
+    (sym (c .before .before .before .before .is-conversion .ensures) ∙ c .before .before .before .if2 .taken))
 
 returns-2 : tie.Need-returns-2
 returns-2 c =
@@ -62,7 +53,7 @@ check-spec =
     (tie.spec
     is-inside-requires
     is-conversion-requires
-    new-requires
+    slice-aggregate-walk
     walk-requires
     returns
     returns-2

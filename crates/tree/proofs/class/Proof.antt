@@ -19,22 +19,22 @@ is-inside-requires c κs = search needs
 
 is-conversion-requires : tie.Need-is-conversion-requires
 is-conversion-requires c κs =
-    let s = c .before .before .before .before .args in
+    let s = c .before .before .before .before .before .args in
     inside-fits (now (s .image)) (s .r) (sym (c .before .is-inside .ensures) ∙ c .if2 .taken)
 
-has-requires : tie.Need-has-requires
-has-requires c κs = search needs
+is-on-requires : tie.Need-is-on-requires
+is-on-requires c κs = search needs
 
 returns-2 : tie.Need-returns-2
 unfolding classed
-returns-2 c = simp (ne-eqb _ _ (c .before .before .before .before .before .before .if1 .left), sym (c .before .has .ensures) ∙ c .if4 .taken)
+returns-2 c = simp (ne-eqb _ _ (c .before .before .before .before .before .before .if1 .left), sym (c .before .is-on .ensures) ∙ c .if4 .taken)
 
 returns-3 : tie.Need-returns-3
 unfolding classed
 returns-3 c =
     simp (
       ne-eqb _ _ (c .before .before .before .before .before .before .if1 .left),
-      sym (c .before .has .ensures) ∙ c .if4 .left,
+      sym (c .before .is-on .ensures) ∙ c .if4 .left,
       sym (c .before .before .before .before .before .is-inside .ensures) ∙ c .before .before .before .before .if2 .taken,
       sym (c .before .before .before .is-conversion .ensures) ∙ c .before .before .if3 .taken,
     )
@@ -42,11 +42,11 @@ returns-3 c =
 returns-4 : tie.Need-returns-4
 unfolding classed
 returns-4 c =
-    let s = c .before .before .before .before .before .before .args in
+    let s = c .before .before .before .before .before .before .before .args in
     let none = sym (c .before .is-conversion .ensures) ∙ c .if3 .left in
     simp (
       ne-eqb _ _ (c .before .before .before .before .if1 .left),
-      off-path (now (s .image)) (take (s .path .len) (s .path .at)) (s .r) (c .before .before .before .before .before .before .pre .1) (not-conversion (now (s .image)) (s .r) none),
+      off-path (now (s .image)) (take (s .n) (now (s .path))) (s .r) (c .before .before .before .before .before .before .before .pre .1) (not-conversion (now (s .image)) (s .r) none),
       sym (c .before .before .before .is-inside .ensures) ∙ c .before .before .if2 .taken,
       none,
     )
@@ -54,11 +54,11 @@ returns-4 c =
 returns-5 : tie.Need-returns-5
 unfolding classed
 returns-5 c =
-    let s = c .before .before .before .before .args in
+    let s = c .before .before .before .before .before .args in
     let none = sym (c .before .is-inside .ensures) ∙ c .if2 .left in
     simp (
       ne-eqb _ _ (c .before .before .if1 .left),
-      off-path (now (s .image)) (take (s .path .len) (s .path .at)) (s .r) (c .before .before .before .before .pre .1) (not-inside (now (s .image)) (s .r) none),
+      off-path (now (s .image)) (take (s .n) (now (s .path))) (s .r) (c .before .before .before .before .before .pre .1) (not-inside (now (s .image)) (s .r) none),
       none,
     )
 
@@ -69,7 +69,7 @@ class-spec =
     returns
     is-inside-requires
     is-conversion-requires
-    has-requires
+    is-on-requires
     returns-2
     returns-3
     returns-4

@@ -1,24 +1,24 @@
 -- `blocks::Block::reference` meets its contract. Assumes nothing.
 use mathlib.Core.Path.{ap, _∙_}
-use Prim.Native.Nat.{ℕ}
 use denote.Ref.{now}
-use Rattle.blocks.specs.Place.{wordIn, referenceOf}
+use Rattle.blocks.specs.Place.{referenceOf}
+use Rattle.blocks.specs.View.{referenceIn}
+use Rattle.blocks.specs.declared.view.View.{View}
 use borrow.Author.Needs.{needs}
 use Rattle.blocks.proofs.Block.reference.Statement.{statement}
 use Rattle.blocks.proofs.Block.reference.Tie as tie
 
-less-fixed-requires : tie.Need-less-fixed-requires
-less-fixed-requires c κs = search needs
+of-requires : tie.Need-of-requires
+of-requires c κs = search needs
 
-word-in-requires : tie.Need-word-in-requires
-word-in-requires c κs = search needs
+reference-requires : tie.Need-reference-requires
+reference-requires c κs = search needs
 
 returns : tie.Need-returns
-unfolding referenceOf
+unfolding referenceOf referenceIn
 returns c =
     let a = c .before .before .before .args in
-    c .word-in .ensures
-    ∙ ap (λ (n : ℕ). wordIn (now (a .image)) (a .self .firstref) n (a .i)) (c .before .less-fixed .ensures)
+    c .reference .ensures ∙ ap (λ (v : View). referenceIn (now (a .image)) v (a .i)) (c .before .of .ensures)
 
 pub reference-spec : {M : Type 1} → statement M
-reference-spec = tie.close (tie.spec less-fixed-requires word-in-requires returns)
+reference-spec = tie.close (tie.spec of-requires reference-requires returns)

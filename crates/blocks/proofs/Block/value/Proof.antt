@@ -1,32 +1,24 @@
 -- `blocks::Block::value` meets its contract. Assumes nothing.
-use mathlib.Core.Path.{sym, ap, _∙_}
-use Rattle.blocks.specs.Place.{valueOf, numbered}
-use Rattle.blocks.specs.declared.Number.the-variants.{Value}
+use mathlib.Core.Path.{ap, _∙_}
+use denote.Ref.{now}
+use Rattle.blocks.specs.Place.{valueOf, valueWordOf}
+use Rattle.blocks.specs.View.{valueIn, valueWordIn}
+use Rattle.blocks.specs.declared.view.View.{View}
 use borrow.Author.Needs.{needs}
 use Rattle.blocks.proofs.Block.value.Statement.{statement}
 use Rattle.blocks.proofs.Block.value.Tie as tie
 
-value-word-requires : tie.Need-value-word-requires
-value-word-requires c κs = search needs
+of-requires : tie.Need-of-requires
+of-requires c κs = search needs
 
-enum-known-w : tie.Need-enum-known-w
-enum-known-w c = search needs
-
-from-bits-requires : tie.Need-from-bits-requires
-from-bits-requires c κs = search needs
-
-enum-told : tie.Need-enum-told
-enum-told c = search needs
+value-requires : tie.Need-value-requires
+value-requires c κs = search needs
 
 returns : tie.Need-returns
-unfolding valueOf
-returns c = ap Value (c .from-bits .ensures) ∙ ap numbered (sym (c .before .before .w .given .1) ∙ c .before .before .before .before .value-word .ensures)
-
-returns-2 : tie.Need-returns-2
-unfolding valueOf
-returns-2 c = ap numbered (sym (c .enum-told .given .1) ∙ c .before .before .value-word .ensures)
+unfolding valueOf valueWordOf valueIn valueWordIn
+returns c =
+    let a = c .before .before .before .args in
+    c .value .ensures ∙ ap (λ (v : View). valueIn (now (a .image)) v (a .i)) (c .before .of .ensures)
 
 pub value-spec : {M : Type 1} → statement M
-value-spec =
-    tie.close
-    (tie.spec value-word-requires enum-known-w from-bits-requires enum-told returns returns-2)
+value-spec = tie.close (tie.spec of-requires value-requires returns)

@@ -1,32 +1,39 @@
 -- `conversion::shown::shown_by` meets its contract. Assumes nothing.
 use mathlib.Core.Path.{_≡_, sym, _∙_}
 use denote.Ref.{now}
-use Rattle.blocks.specs.Block.{parsed}
-use Rattle.blocks.specs.declared.Parsed.the-variants.{Whole}
+use Rattle.blocks.specs.View.{seen}
+use Rattle.blocks.specs.declared.view.Seen.the-variants.{Open}
+use Rattle.steps.proofs.Opened.{seen-fits}
 use Rattle.leads.specs.declared.lead.Lead.the-variants.{Words, Nested, Nil, Elsewhere}
-use Rattle.conversion.proofs.Showing.{shown-refused, few-references, shown-other, shown-ten}
+use Rattle.conversion.proofs.Showing.{shown-cut, lead-within, shown-other, shown-ten}
 use borrow.Author.Needs.{needs}
 use Rattle.conversion.proofs.shown.shown_by.Statement.{statement}
 use Rattle.conversion.proofs.shown.shown_by.Tie as tie
 
-parse-requires : tie.Need-parse-requires
-parse-requires c κs = search needs
+look-requires : tie.Need-look-requires
+look-requires c κs = search needs
 
 enum-known-b : tie.Need-enum-known-b
 enum-known-b c = search needs
 
--- the block was parsed from the image
+-- the block was seen in the image
 is-whole : (c : tie.Then1)
-    → parsed (now (c .before .before .before .before .before .before .before .before .args .image)) (c .before .before .before .before .before .before .before .before .args .address) ≡ Whole (c .before .before .before .b .given .0 .0)
-is-whole c = sym (c .before .before .before .before .before .parse .ensures) ∙ c .before .before .before .b .given .1
+    → seen (now (c .before .before .before .before .before .before .before .before .args .image)) (c .before .before .before .before .before .before .before .before .args .address) ≡ Open (c .before .before .before .b .given .0 .0)
+is-whole c = sym (c .before .before .before .before .before .look .ensures) ∙ c .before .before .before .b .given .1
 
 translate-requires : tie.Need-translate-requires
 translate-requires c κs =
     let s = c .before .before .before .before .before .before .before .before .args in
-    few-references (now (s .image)) (s .address) (c .before .before .before .b .given .0 .0) (is-whole c)
+    seen-fits (now (s .image)) (s .address) (c .before .before .before .b .given .0 .0) (is-whole c) .1
 
 enum-known-from : tie.Need-enum-known-from
 enum-known-from c = search needs
+
+text-end-requires : tie.Need-text-end-requires
+text-end-requires c κs =
+    let t = c .before .before .before .before in
+    let s = c .before .before .before .before .before .before .before .before .before .before .before .before .args in
+    lead-within (now (s .image)) (now (s .question)) (s .address) (t .before .before .before .b .given .0 .0) (is-whole t) (Words _ _) (sym (c .before .before .before .translate .ensures) ∙ c .before .from .given .1)
 
 enum-told : tie.Need-enum-told
 enum-told c = search needs
@@ -42,9 +49,10 @@ enum-told-4 c = search needs
 
 returns : tie.Need-returns
 returns c =
-    let t = c .before .before .before .before in
-    let s = t .before .before .before .before .before .before .before .before .args in
-    shown-ten (now (s .image)) (now (s .question)) (s .address) (t .before .before .before .b .given .0 .0) (is-whole t) (Words _ _) (t .if1 .taken) (sym (c .before .before .before .translate .ensures) ∙ c .before .from .given .1)
+    let t = c .before .before .before .before .before in
+    let s = c .before .before .before .before .before .before .before .before .before .before .before .before .before .args in
+    rw (c .text-end .ensures)
+    (shown-ten (now (s .image)) (now (s .question)) (s .address) (t .before .before .before .b .given .0 .0) (is-whole t) (Words _ _) (t .if1 .taken) (sym (c .before .before .before .before .translate .ensures) ∙ c .before .before .from .given .1))
 
 returns-2 : tie.Need-returns-2
 returns-2 c =
@@ -67,21 +75,22 @@ returns-4 c =
 returns-5 : tie.Need-returns-5
 returns-5 c =
     let s = c .before .before .before .before .before .before .before .before .args in
-    (shown-other (now (s .image)) (now (s .question)) (s .address) (c .before .before .before .b .given .0 .0) (sym (c .before .before .before .before .before .parse .ensures) ∙ c .before .before .before .b .given .1) (c .if1 .left), tt)
+    (shown-other (now (s .image)) (now (s .question)) (s .address) (c .before .before .before .b .given .0 .0) (sym (c .before .before .before .before .before .look .ensures) ∙ c .before .before .before .b .given .1) (c .if1 .left), tt)
 
 returns-6 : tie.Need-returns-6
 returns-6 c =
     let s = c .before .before .before .before .before .args in
-    (shown-refused (now (s .image)) (now (s .question)) (s .address) _ (sym (c .before .before .parse .ensures) ∙ c .enum-told4 .given .1), tt)
+    (shown-cut (now (s .image)) (now (s .question)) (s .address) (sym (c .before .before .look .ensures) ∙ c .enum-told4 .given .1), tt)
 
 pub shown-by-spec : {M : Type 1} → statement M
 shown-by-spec =
     tie.close
     (tie.spec
-    parse-requires
+    look-requires
     enum-known-b
     translate-requires
     enum-known-from
+    text-end-requires
     enum-told
     enum-told-2
     enum-told-3

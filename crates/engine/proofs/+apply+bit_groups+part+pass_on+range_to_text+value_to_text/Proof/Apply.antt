@@ -36,7 +36,7 @@ apply-enum-known-b t c = search needs
 
 pub apply-value-to-text-requires : (t : ℕ) → apply-lts.Need-value-to-text-requires (apply-calls t) (apply-at t) apply.Post
 apply-value-to-text-requires t c κs = let fits = subst (StepIn (now (c .before .before .before .before .before .before .before .before .before .args .image))) (c .before .before .b .given .1) (c .before .before .before .before .step-at .ensures .1) in
-    (omega arith, (omega arith, fits))
+    (omega arith, (omega arith, omega arith, fits))
 
 pub apply-counted-requires-2 : (t : ℕ) → apply-lts.Need-counted-requires-2 (apply-calls t) (apply-at t) apply.Post
 apply-counted-requires-2 t c κs = search needs
@@ -46,7 +46,7 @@ apply-enum-known-b-2 t c = search needs
 
 pub apply-range-to-text-requires : (t : ℕ) → apply-lts.Need-range-to-text-requires (apply-calls t) (apply-at t) apply.Post
 apply-range-to-text-requires t c κs = let fits = subst (StepIn (now (c .before .before .before .before .before .before .before .before .before .args .image))) (c .before .before .b2 .given .1) (c .before .before .before .before .step-at .ensures .1) in
-    (omega arith, (omega arith, fits))
+    (omega arith, (omega arith, omega arith, fits))
 
 pub apply-counted-requires-3 : (t : ℕ) → apply-lts.Need-counted-requires-3 (apply-calls t) (apply-at t) apply.Post
 apply-counted-requires-3 t c κs = search needs

@@ -41,7 +41,7 @@ bit-groups-mask-at-requires t c κs = search needs
 
 pub bit-groups-part-requires : (t : ℕ) → bit-groups-lts.Need-part-requires (bit-groups-calls t) (bit-groups-at t) bit-groups.Post bit-groups-Inv-loop bit-groups-μ-loop
 bit-groups-part-requires t c κs = let inner = subst (Inside (now (c .before .before .before .before .before .before .before .before .before .args .image))) (sym (c .before .before .lead-at .ensures)) (lead-at-inside (now (c .before .before .before .before .before .before .before .before .before .args .image)) (c .before .before .before .before .before .before .before .before .before .args .b) (c .before .before .before .before .loop .i)) in
-    (omega arith, (omega (arith, c .before .before .before .before .loop .inv .1 .put .wrote .same), inner))
+    (omega arith, (omega (arith, c .before .before .before .before .loop .inv .1 .put .wrote .same), omega (arith, c .before .before .before .before .loop .inv .1 .put .wrote .same, c .before .before .before .before .loop .inv .1 .put .end), inner))
 
 pub bit-groups-add-visits-requires : (t : ℕ) → bit-groups-lts.Need-add-visits-requires (bit-groups-calls t) (bit-groups-at t) bit-groups.Post bit-groups-Inv-loop bit-groups-μ-loop
 bit-groups-add-visits-requires t c κs = search needs

@@ -1,25 +1,19 @@
 -- The answers of `engine::part`. Assumes nothing.
-use Rattle.pieces.proofs.Answers.{put-did, quiet-did, pasted-did, SaidIn, did-in, no-words}
+use Rattle.pieces.proofs.Answers.{put-did, quiet-did, pasted-did, did-in, no-words}
 use mathlib.Core.Path.{refl, sym, subst}
 use denote.Ref.{now}
 use Rattle.leads.specs.Lead.{Inside}
 use Rattle.pieces.specs.Answer.{unchanged}
-use Rattle.pieces.specs.Did.{NoWords}
+use Rattle.pieces.specs.Did.{SaidIn, NoWords}
 use Rattle.pieces.specs.Label.{bar}
 use Rattle.pieces.proofs.Laws.{then}
-use Rattle.pieces.proofs.Answers.{put-did, quiet-did, pasted-did, SaidIn, did-in, no-words}
 use Rattle.engine.proofs.Levels.{labelled-did}
-use Prim.Native.Nat.{_≤_}
-use Prim.Native.Nat.{ℕ, _-_, _≤_}
+use Prim.Native.Nat.{ℕ}
 use borrow.Author.Needs.{needs}
 use native.Mathlib.Omega.{arith}
 use Rattle.engine.proofs.part.Reads as part
 use Rattle.engine.proofs.+apply+bit_groups+part+pass_on+range_to_text+value_to_text.Lts-part as part-lts
 use Rattle.engine.proofs.+apply+bit_groups+part+pass_on+range_to_text+value_to_text.Proof.Shared.{part-at, part-calls}
-
--- the limit, seen from where the output is first known
-part-lim : (t : ℕ) (c : part-lts.After-slice-known (part-calls t) (part-at t) part.Post) → c .before .before .before .args .lim ≤ 18446744073709551615
-part-lim t c = omega arith
 
 pub part-enum-known-lead : (t : ℕ) → part-lts.Need-enum-known-lead (part-calls t) (part-at t) part.Post
 part-enum-known-lead t c = search needs
@@ -28,8 +22,8 @@ pub part-paste-bar-requires : (t : ℕ) → part-lts.Need-paste-bar-requires (pa
 part-paste-bar-requires t c κs = search needs
 
 pub part-paste-requires : (t : ℕ) → part-lts.Need-paste-requires (part-calls t) (part-at t) part.Post
-part-paste-requires t c κs = let lies = subst (Inside (now (c .before .before .before .before .before .before .before .before .before .before .before .args .image))) (c .before .before .before .before .before .before .lead .given .1) (c .before .before .before .before .before .before .before .before .before .before .before .pre .1 .1) in
-    (omega (arith, c .before .before .before .paste-bar .ensures .wrote .same), lies .0, lies .1)
+part-paste-requires t c κs = let lies = subst (Inside (now (c .before .before .before .before .before .before .before .before .before .before .before .args .image))) (c .before .before .before .before .before .before .lead .given .1) (c .before .before .before .before .before .before .before .before .before .before .before .pre .1 .2) in
+    (omega (arith, c .before .before .before .paste-bar .ensures .wrote .same), omega (arith, c .before .before .before .paste-bar .ensures .wrote .same, c .before .before .before .paste-bar .ensures .end), lies .0, lies .1)
 
 pub part-quiet-requires : (t : ℕ) → part-lts.Need-quiet-requires (part-calls t) (part-at t) part.Post
 part-quiet-requires t c κs = search needs
@@ -38,17 +32,17 @@ pub part-enum-known-lead-2 : (t : ℕ) → part-lts.Need-enum-known-lead-2 (part
 part-enum-known-lead-2 t c = search needs
 
 pub part-paste-label-requires : (t : ℕ) → part-lts.Need-paste-label-requires (part-calls t) (part-at t) part.Post
-part-paste-label-requires t c κs = (omega arith, subst (Inside (now (c .before .before .before .before .before .before .before .args .image))) (c .before .before .lead2 .given .1) (c .before .before .before .before .before .before .before .pre .1 .1))
+part-paste-label-requires t c κs = (omega arith, omega arith, subst (Inside (now (c .before .before .before .before .before .before .before .args .image))) (c .before .before .lead2 .given .1) (c .before .before .before .before .before .before .before .pre .1 .2))
 
 pub part-apply-requires : (t : ℕ) → part-lts.Need-apply-requires (part-calls t) (part-at t) part.Post
-part-apply-requires t c κs = (omega arith, (omega (arith, c .before .before .before .paste-label .ensures .wrote .same), subst (Inside (now (c .before .before .before .before .before .before .before .before .before .before .before .args .image))) (c .before .before .before .before .before .before .lead2 .given .1) (c .before .before .before .before .before .before .before .before .before .before .before .pre .1 .1)))
+part-apply-requires t c κs = (omega arith, (omega (arith, c .before .before .before .paste-label .ensures .wrote .same), omega (arith, c .before .before .before .paste-label .ensures .wrote .same, c .before .before .before .paste-label .ensures .end), subst (Inside (now (c .before .before .before .before .before .before .before .before .before .before .before .args .image))) (c .before .before .before .before .before .before .lead2 .given .1) (c .before .before .before .before .before .before .before .before .before .before .before .pre .1 .2)))
 
 pub part-enum-known-said : (t : ℕ) → part-lts.Need-enum-known-said (part-calls t) (part-at t) part.Post
 part-enum-known-said t c = search needs
 
 pub part-paste-requires-2 : (t : ℕ) → part-lts.Need-paste-requires-2 (part-calls t) (part-at t) part.Post
 part-paste-requires-2 t c κs = let lies = subst (SaidIn (now (c .before .before .before .before .before .before .before .before .before .before .before .before .before .before .before .before .before .before .args .image))) (c .before .before .said .given .1) (did-in (c .before .before .before .before .before .before .apply .ensures)) in
-    (omega (arith, c .before .before .before .before .before .before .before .before .before .before .paste-label .ensures .wrote .same, c .before .before .before .before .before .before .apply .ensures .wrote .same), lies .0, lies .1)
+    (omega (arith, c .before .before .before .before .before .before .before .before .before .before .paste-label .ensures .wrote .same, c .before .before .before .before .before .before .apply .ensures .wrote .same), omega (arith, c .before .before .before .before .before .before .before .before .before .before .paste-label .ensures .wrote .same, c .before .before .before .before .before .before .before .before .before .before .paste-label .ensures .end, c .before .before .before .before .before .before .apply .ensures .wrote .same), lies .0, lies .1)
 
 pub part-enum-told : (t : ℕ) → part-lts.Need-enum-told (part-calls t) (part-at t) part.Post
 part-enum-told t c = search needs
@@ -74,8 +68,8 @@ part-same-length-2 t c = search needs
 
 pub part-returns-2 : (t : ℕ) → part-lts.Need-returns-2 (part-calls t) (part-at t) part.Post
 part-returns-2 t c = rw (c .before .before .before .before .before .before .before .before .before .before .before .before .before .before .before .before .lead2 .given .1) (
-  labelled-did (bar (c .before .before .before .before .before .before .before .before .before .before .before .before .before .before .before .before .before .before .before .before .before .args .started)) _ _ (part-lim t (c .before .before .before .before .before .before .before .before .before .before .before .before .before .before .before .before .before .before)) tt (c .before .before .before .before .before .before .before .before .before .before .before .before .before .paste-label .ensures)
-      (pasted-did _ _ _ (part-lim t (c .before .before .before .before .before .before .before .before .before .before .before .before .before .before .before .before .before .before)) (omega (arith, c .before .before .before .before .before .before .before .before .before .before .before .before .before .paste-label .ensures .end)) (c .before .before .before .before .before .before .before .before .before .apply .ensures) (c .before .before .before .before .before .said .given .1) (c .before .before .paste2 .ensures) refl refl),
+  labelled-did (bar (c .before .before .before .before .before .before .before .before .before .before .before .before .before .before .before .before .before .before .before .before .before .args .started)) _ _ (c .before .before .before .before .before .before .before .before .before .before .before .before .before .before .before .before .before .before .before .before .before .pre .1 .0) tt (c .before .before .before .before .before .before .before .before .before .before .before .before .before .paste-label .ensures)
+      (pasted-did _ _ _ (omega (arith, c .before .before .before .before .before .before .before .before .before .before .before .before .before .before .before .before .before .before .before .before .before .pre .1 .0, c .before .before .before .before .before .before .before .before .before .before .before .before .before .paste-label .ensures .wrote .same)) (omega (arith, c .before .before .before .before .before .before .before .before .before .before .before .before .before .paste-label .ensures .wrote .same, c .before .before .before .before .before .before .before .before .before .before .before .before .before .paste-label .ensures .end)) (c .before .before .before .before .before .before .before .before .before .apply .ensures) (c .before .before .before .before .before .said .given .1) (c .before .before .paste2 .ensures) refl refl),
   tt,
 )
 

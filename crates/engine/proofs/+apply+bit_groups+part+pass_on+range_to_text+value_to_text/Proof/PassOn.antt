@@ -19,7 +19,7 @@ pub pass-on-enum-known-c : (t : ℕ) → pass-on-lts.Need-enum-known-c (pass-on-
 pass-on-enum-known-c t c = search needs
 
 pub pass-on-apply-requires : (t : ℕ) → pass-on-lts.Need-apply-requires (pass-on-calls t) (pass-on-at t) pass-on.Post
-pass-on-apply-requires t c κs = (omega arith, (omega arith, subst (ChoiceIn (now (c .before .before .before .before .before .before .before .args .image))) (c .before .before .c .given .1) (c .before .before .before .before .before .before .before .pre .1 .1)))
+pass-on-apply-requires t c κs = (omega arith, (omega arith, omega arith, subst (ChoiceIn (now (c .before .before .before .before .before .before .before .args .image))) (c .before .before .c .given .1) (c .before .before .before .before .before .before .before .pre .1 .2)))
 
 pub pass-on-enum-known-c-2 : (t : ℕ) → pass-on-lts.Need-enum-known-c-2 (pass-on-calls t) (pass-on-at t) pass-on.Post
 pass-on-enum-known-c-2 t c = search needs
@@ -35,7 +35,7 @@ pass-on-returns t c = rw (c .before .before .before .before .before .c .given .1
 
 pub pass-on-returns-2 : (t : ℕ) → pass-on-lts.Need-returns-2 (pass-on-calls t) (pass-on-at t) pass-on.Post
 pass-on-returns-2 t c = let img = now (c .before .before .before .before .before .before .before .args .image) in
-    let lies = subst (ChoiceIn img) (c .before .before .c2 .given .1) (c .before .before .before .before .before .before .before .pre .1 .1) in
+    let lies = subst (ChoiceIn img) (c .before .before .c2 .given .1) (c .before .before .before .before .before .before .before .pre .1 .2) in
     rw (c .before .before .c2 .given .1)
     (told-as img (now (c .before .before .before .before .before .before .before .args .out)) (c .before .before .before .before .before .before .before .args .pos) (c .before .before .before .before .before .before .before .args .lim) (c .before .before .c2 .given .0 .0) lies (c .told .ensures))
 

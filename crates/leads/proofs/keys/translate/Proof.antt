@@ -1,15 +1,12 @@
 -- `leads::keys::translate` meets its contract. Assumes nothing.
 use mathlib.Core.Path.{_≡_, ap, _∙_}
-use Prim.Native.Nat.{ℕ, _-_, _/_}
+use Prim.Native.Nat.{ℕ}
 use denote.Ref.{now}
 use Rattle.leads.specs.Lead.{leadAt}
 use Rattle.leads.specs.Keys.{firstText, pairCount, outputOf, translated}
 use borrow.Author.Needs.{needs}
 use Rattle.leads.proofs.keys.translate.Statement.{statement}
 use Rattle.leads.proofs.keys.translate.Tie as tie
-
-reference-count-requires : tie.Need-reference-count-requires
-reference-count-requires c κs = search needs
 
 pairs-of-requires : tie.Need-pairs-of-requires
 pairs-of-requires c κs = search needs
@@ -26,10 +23,10 @@ lead-at-requires c κs = search needs
 returns : tie.Need-returns
 unfolding translated pairCount
 returns c =
-    let s = c .before .before .before .before .before .before .before .args in
+    let s = c .before .before .before .before .before .before .args in
     let img = now (s .image) in
     let pairs : c .before .before .before .pairs-of .result ≡ pairCount (s .b) =
-    c .before .before .before .pairs-of .ensures .0 ∙ ap (λ (r : ℕ). (r - 1) / 2) (c .before .before .before .before .reference-count .ensures) in
+    c .before .before .before .pairs-of .ensures .0 in
     c .lead-at .ensures
     ∙ ap (leadAt img (s .b)) (c .before .output-of .ensures)
     ∙ ap (λ (j : ℕ). leadAt img (s .b) (outputOf j (c .before .before .before .pairs-of .result))) (c .before .before .find-text .ensures)
@@ -39,7 +36,6 @@ pub translate-spec : {M : Type 1} → statement M
 translate-spec =
     tie.close
     (tie.spec
-    reference-count-requires
     pairs-of-requires
     find-text-requires
     output-of-requires

@@ -12,8 +12,8 @@ returns : tie.Need-returns
 unfolding leadOf
 returns c = simp (eq-eqb _ _ (c .if1 .taken))
 
-text-of-requires : tie.Need-text-of-requires
-text-of-requires c κs = search needs
+run-of-requires : tie.Need-run-of-requires
+run-of-requires c κs = search needs
 
 enum-known-from : tie.Need-enum-known-from
 enum-known-from c = search needs
@@ -28,14 +28,14 @@ returns-2 : tie.Need-returns-2
 unfolding leadOf
 returns-2 c =
     let s = c .before .before .before .before .before .before .args in
-    let e = sym (c .before .from .given .1) ∙ c .before .before .before .text-of .ensures in
+    let e = sym (c .before .from .given .1) ∙ c .before .before .before .run-of .ensures in
     simp (ne-eqb _ _ (c .before .before .before .before .if1 .left)) (ap (λ (t : Text). byText t (nestedAt (now (s .image)) (s .link))) e)
 
 returns-3 : tie.Need-returns-3
 unfolding leadOf
 returns-3 c =
     let s = c .before .before .before .before .before .before .args in
-    let e = sym (c .before .enum-told .given .1) ∙ c .before .before .before .text-of .ensures in
+    let e = sym (c .before .enum-told .given .1) ∙ c .before .before .before .run-of .ensures in
     c .nested-at .ensures ∙ simp (ne-eqb _ _ (c .before .before .before .before .if1 .left)) (ap (λ (t : Text). byText t (nestedAt (now (s .image)) (s .link))) e)
 
 pub lead-of-spec : {M : Type 1} → statement M
@@ -43,7 +43,7 @@ lead-of-spec =
     tie.close
     (tie.spec
     returns
-    text-of-requires
+    run-of-requires
     enum-known-from
     enum-told
     nested-at-requires

@@ -6,7 +6,7 @@ use lib.ListN.{length}
 use denote.Ref.{now}
 use borrow.Author.Tests.{le-leb, lt-leb}
 use borrow.Author.Needs.{needs}
-use Rattle.common.specs.Text.{textOf}
+use Rattle.common.specs.Text.{runOf}
 use Rattle.pieces.specs.Label.{nameAt}
 use Rattle.pieces.proofs.label.name_at.Statement.{statement}
 use Rattle.pieces.proofs.label.name_at.Tie as tie
@@ -26,15 +26,15 @@ add-u64-at c = search needs
 u64-at-requires : tie.Need-u64-at-requires
 u64-at-requires c κs = search needs
 
-text-of-requires : tie.Need-text-of-requires
-text-of-requires c κs = search needs
+run-of-requires : tie.Need-run-of-requires
+run-of-requires c κs = search needs
 
 returns-2 : tie.Need-returns-2
 unfolding nameAt
 returns-2 c =
     let a = c .before .before .before .before .args in
-    rw (le-leb (a .at + 32) (length (now (a .image))) (omega arith)) (c .text-of .ensures ∙ ap (textOf (now (a .image))) (c .before .u64-at .ensures))
+    rw (le-leb (a .at + 32) (length (now (a .image))) (omega arith)) (c .run-of .ensures ∙ ap (runOf (now (a .image))) (c .before .u64-at .ensures))
 
 pub name-at-spec : {M : Type 1} → statement M
 name-at-spec =
-    tie.close (tie.spec sub-if1 returns add-u64-at u64-at-requires text-of-requires returns-2)
+    tie.close (tie.spec sub-if1 returns add-u64-at u64-at-requires run-of-requires returns-2)

@@ -1,98 +1,44 @@
--- `pieces::paste::paste` meets its contract. The invariant: the bytes up to i stand in the output. Assumes nothing.
-use mathlib.Core.Path.{_≡_}
-use Prim.Native.Nat.{_+_, _-_, _≤_}
+-- `pieces::paste::paste` meets its contract. Assumes nothing.
+use mathlib.Core.Path.{_≡_, refl}
+use Prim.Native.Nat.{_+_, _-_, min}
 use native.Mathlib.Omega.{arith}
-use lib.ListN.{take, drop, length-drop}
+use lib.ListN.{length}
 use denote.Ref.{now}
+use Rattle.common.specs.Text.{textBytes}
+use Rattle.common.proofs.Texts.{bytes-short}
+use Rattle.pieces.proofs.Laws.{looked-part, text-put}
 use borrow.Author.Needs.{needs}
-use Rattle.pieces.specs.Write.{Wrote}
-use Rattle.pieces.proofs.Laws.{longer, part-start, part-more, part-put}
 use Rattle.pieces.proofs.paste.paste.Statement.{statement}
 use Rattle.pieces.proofs.paste.paste.Tie as tie
 
-abbrev Inv-loop : tie.InvT-loop
-Inv-loop image from to out₀ pos lim end p₀ i₀ out p i =
-    (from ≤ i) × ((i ≤ to) × ((p ≡ pos + (i - from)) × Wrote out₀ out pos lim (take (i - from) (drop from image))))
+measure-requires : tie.Need-measure-requires
+measure-requires c κs = search needs
 
-abbrev μ-loop : tie.MeasureT-loop
-μ-loop image from to out₀ pos lim end p₀ i₀ out p i = to - i
+copy-requires : tie.Need-copy-requires
+copy-requires c κs =
+    let a = c .before .before .before .before .args in
+    omega (arith, bytes-short (now (a .image)) (a .from) (a .to), c .before .measure .ensures)
 
-sub-add-places : tie.Need-sub-add-places Inv-loop μ-loop
-sub-add-places c = search needs
+sub-result : tie.Need-sub-result
+sub-result c = search needs
 
-add-places-requires : tie.Need-add-places-requires Inv-loop μ-loop
-add-places-requires c κs = search needs
+add-result : tie.Need-add-result
+add-result c = search needs
 
-loop-holds : tie.Need-loop-holds Inv-loop μ-loop
-loop-holds c =
-    let a = c .before .before .before .args in
-    (omega arith, (omega arith, (omega arith, part-start (now (a .out)) (a .pos) (a .lim) (now (a .image)) (a .from))))
+same-length : tie.Need-same-length
+same-length c = search needs
 
-same-length : tie.Need-same-length Inv-loop μ-loop
-same-length c = c .before .before .loop .inv .1 .1 .1 .same
-
-returns : tie.Need-returns Inv-loop μ-loop
+returns : tie.Need-returns
 returns c =
-    let l = c .before .before in
-    let a = c .before .before .before .before .before .before .args in
-    let k = l .loop .i - a .from in
-    part-put (now (a .image)) (a .from) (a .to) (omega arith) (c .before .before .before .add-places .ensures)
-    (longer (now (a .out)) (l .loop .out) (a .pos) (a .lim) (drop (a .from) (now (a .image))) k (a .to - a .from) (simp length-drop (omega arith)) (omega arith) (l .loop .inv .1 .1 .1))
-
-shared-slice-read-out : tie.Need-shared-slice-read-out Inv-loop μ-loop
-shared-slice-read-out c = search needs
-
-slice-write-out : tie.Need-slice-write-out Inv-loop μ-loop
-slice-write-out c = omega (arith, c .before .before .before .loop .inv .1 .1 .1 .same)
-
-add-p : tie.Need-add-p Inv-loop μ-loop
-add-p c = search needs
-
-add-i : tie.Need-add-i Inv-loop μ-loop
-add-i c = search needs
-
-loop-less : tie.Need-loop-less Inv-loop μ-loop
-loop-less c = search needs
-
-loop-again : tie.Need-loop-again Inv-loop μ-loop
-loop-again c =
-    let l = c .before .before .before in
-    let a = c .before .before .before .before .before .before .before .args in (
-      omega arith,
-      (
-        omega arith,
-        (
-          omega arith,
-          part-more (now (a .out)) (l .loop .out) (a .pos) (a .lim) (now (a .image)) (a .from) (l .loop .i) (l .loop .p) (omega arith) (omega arith) (omega arith) (omega arith) (omega arith) (omega arith) (l .loop .inv .1 .1 .1),
-        ),
-      ),
-    )
-
-same-length-2 : tie.Need-same-length-2 Inv-loop μ-loop
-same-length-2 c = c .before .loop .inv .1 .1 .1 .same
-
-returns-2 : tie.Need-returns-2 Inv-loop μ-loop
-returns-2 c =
-    let a = c .before .before .before .before .before .args in
-    let e : c .before .loop .i ≡ a .to = omega arith in
-    part-put (now (a .image)) (a .from) (a .to) (omega arith) (c .before .before .add-places .ensures) (rw (← e) (c .before .loop .inv .1 .1 .1))
+    let s = c .before .before .before .before .before .before .before in
+    let a = s .args in
+    let img = now (a .image) in
+    let t = textBytes img (a .from) (a .to) in
+    let n = c .before .before .before .before .measure .result - a .from in
+    let few : n ≡ min (length t) (length (now (a .out)) + 1 - a .pos) = omega (arith, c .before .before .before .before .measure .ensures) in
+    text-put t n (s .pre .0) (s .pre .1) few refl
+    (looked-part img (a .from) (a .to) n (omega arith)) (c .before .before .copy .ensures)
 
 pub paste-spec : {M : Type 1} → statement M
 paste-spec =
-    tie.close
-    (tie.spec
-    Inv-loop
-    μ-loop
-    sub-add-places
-    add-places-requires
-    loop-holds
-    same-length
-    returns
-    shared-slice-read-out
-    slice-write-out
-    add-p
-    add-i
-    loop-less
-    loop-again
-    same-length-2
-    returns-2)
+    tie.close (tie.spec measure-requires copy-requires sub-result add-result same-length returns)

@@ -27,14 +27,14 @@ loop-holds c =
     ap (λ (k : ℕ). firstKey (values (now (a .image)) (a .p) k) (a .x)) (sym e) in
     (omega arith, (omega arith, omega arith))
 
-value-at-requires : tie.Need-value-at-requires Inv-loop μ-loop
-value-at-requires c κs = search needs
+is-key-at-requires : tie.Need-is-key-at-requires Inv-loop μ-loop
+is-key-at-requires c κs = search needs
 
 returns : tie.Need-returns Inv-loop μ-loop
 returns c =
     let l = c .before .before .before in
     let a = l .before .before .args in
-    let t : eq (valueAt (now (a .image)) (l .loop .at)) (a .x) ≡ true = rw (sym (c .before .value-at .ensures)) (c .if1 .taken) in
+    let t : eq (valueAt (now (a .image)) (l .loop .at)) (a .x) ≡ true = sym (c .before .is-key-at .ensures) ∙ c .if1 .taken in
     let f = key-hit (now (a .image)) (a .x) (l .loop .at) (a .n - l .loop .i) (omega arith) t in
     omega arith
 
@@ -51,7 +51,7 @@ loop-again : tie.Need-loop-again Inv-loop μ-loop
 loop-again c =
     let l = c .before .before .before in
     let a = l .before .before .args in
-    let t : eq (valueAt (now (a .image)) (l .loop .at)) (a .x) ≡ false = rw (sym (c .before .value-at .ensures)) (c .if1 .left) in
+    let t : eq (valueAt (now (a .image)) (l .loop .at)) (a .x) ≡ false = sym (c .before .is-key-at .ensures) ∙ c .if1 .left in
     let rest : a .n - l .loop .i - 1 ≡ a .n - (l .loop .i + 1) = omega arith in
     let f = key-miss (now (a .image)) (a .x) (l .loop .at) (a .n - l .loop .i) (a .n - (l .loop .i + 1)) (omega arith) rest t in
     (omega arith, (omega arith, omega arith))
@@ -70,7 +70,7 @@ key-index-spec =
     Inv-loop
     μ-loop
     loop-holds
-    value-at-requires
+    is-key-at-requires
     returns
     add-at
     add-i

@@ -33,24 +33,15 @@ loop-holds c =
     range-even img (a .whole) (a .x) (a .p) (a .n) (c .if1 .left) ∙ ap (λ (k : ℕ). firstRange (a .whole) (values img (a .p) k) (a .x)) (sym e) in
     (omega arith, (omega arith, omega arith))
 
-value-at-requires : tie.Need-value-at-requires Inv-loop μ-loop
-value-at-requires c κs = search needs
-
-add-value-at : tie.Need-add-value-at Inv-loop μ-loop
-add-value-at c = search needs
-
-value-at-requires-2 : tie.Need-value-at-requires-2 Inv-loop μ-loop
-value-at-requires-2 c κs = search needs
-
-is-held-requires : tie.Need-is-held-requires Inv-loop μ-loop
-is-held-requires c κs = search needs
+is-held-at-requires : tie.Need-is-held-at-requires Inv-loop μ-loop
+is-held-at-requires c κs = search needs
 
 returns-2 : tie.Need-returns-2 Inv-loop μ-loop
 returns-2 c =
-    let l = c .before .before .before .before .before in
+    let l = c .before .before .before in
     let a = l .before .before .before .args in
     let t : holds (a .whole) (valueAt (now (a .image)) (l .loop .at)) (valueAt (now (a .image)) (l .loop .at + 8)) (a .x) ≡ true =
-    rw (sym (c .before .before .before .value-at .ensures), sym (c .before .before .value-at2 .ensures)) (sym (c .before .is-held .ensures) ∙ c .if2 .taken) in
+    sym (c .before .is-held-at .ensures) ∙ c .if2 .taken in
     let f = range-hit (now (a .image)) (a .whole) (a .x) (l .loop .at) (a .n - l .loop .i * 2) (omega arith) t in
     omega arith
 
@@ -65,10 +56,10 @@ loop-less c = search needs
 
 loop-again : tie.Need-loop-again Inv-loop μ-loop
 loop-again c =
-    let l = c .before .before .before .before .before in
+    let l = c .before .before .before in
     let a = l .before .before .before .args in
     let t : holds (a .whole) (valueAt (now (a .image)) (l .loop .at)) (valueAt (now (a .image)) (l .loop .at + 8)) (a .x) ≡ false =
-    rw (sym (c .before .before .before .value-at .ensures), sym (c .before .before .value-at2 .ensures)) (sym (c .before .is-held .ensures) ∙ c .if2 .left) in
+    sym (c .before .is-held-at .ensures) ∙ c .if2 .left in
     let rest : a .n - l .loop .i * 2 - 2 ≡ a .n - (l .loop .i + 1) * 2 = omega arith in
     let f = range-miss (now (a .image)) (a .whole) (a .x) (l .loop .at) (a .n - l .loop .i * 2) (a .n - (l .loop .i + 1) * 2) (omega arith) rest t in
     (omega arith, (omega arith, omega arith))
@@ -88,10 +79,7 @@ range-index-spec =
     μ-loop
     returns
     loop-holds
-    value-at-requires
-    add-value-at
-    value-at-requires-2
-    is-held-requires
+    is-held-at-requires
     returns-2
     add-at
     add-i

@@ -34,31 +34,22 @@ loop-holds c =
     let a = c .before .before .before .args in
     (omega arith, (omega arith, (omega arith, range-value-good (now (a .image)) (a .whole) (a .x) (a .p) (a .n) (c .before .if1 .left) (c .if2 .left))))
 
-value-at-requires : tie.Need-value-at-requires Inv-loop μ-loop
-value-at-requires c κs = search needs
+is-held-at-requires : tie.Need-is-held-at-requires Inv-loop μ-loop
+is-held-at-requires c κs = search needs
 
 add-value-at : tie.Need-add-value-at Inv-loop μ-loop
 add-value-at c = search needs
 
-value-at-requires-2 : tie.Need-value-at-requires-2 Inv-loop μ-loop
-value-at-requires-2 c κs = search needs
-
-is-held-requires : tie.Need-is-held-requires Inv-loop μ-loop
-is-held-requires c κs = search needs
-
-add-value-at-2 : tie.Need-add-value-at-2 Inv-loop μ-loop
-add-value-at-2 c = search needs
-
-value-at-requires-3 : tie.Need-value-at-requires-3 Inv-loop μ-loop
-value-at-requires-3 c κs = search needs
+value-at-requires : tie.Need-value-at-requires Inv-loop μ-loop
+value-at-requires c κs = search needs
 
 returns-3 : tie.Need-returns-3 Inv-loop μ-loop
 returns-3 c =
-    let l = c .before .before .before .before .before .before in
+    let l = c .before .before .before .before in
     let a = l .before .before .before .before .args in
     let t : holds (a .whole) (valueAt (now (a .image)) (l .loop .at)) (valueAt (now (a .image)) (l .loop .at + 8)) (a .x) ≡ true =
-    rw (sym (c .before .before .before .before .value-at .ensures), sym (c .before .before .before .value-at2 .ensures)) (sym (c .before .before .is-held .ensures) ∙ c .before .if3 .taken) in
-    c .value-at3 .ensures ∙ sym (l .loop .inv .1 .1 .1 ∙ triple-hit (now (a .image)) (a .whole) (a .x) (l .loop .at) (l .loop .left) (omega arith) t)
+    sym (c .before .before .is-held-at .ensures) ∙ c .before .if3 .taken in
+    c .value-at .ensures ∙ sym (l .loop .inv .1 .1 .1 ∙ triple-hit (now (a .image)) (a .whole) (a .x) (l .loop .at) (l .loop .left) (omega arith) t)
 
 add-at : tie.Need-add-at Inv-loop μ-loop
 add-at c = search needs
@@ -71,20 +62,20 @@ loop-less c = search needs
 
 loop-again : tie.Need-loop-again Inv-loop μ-loop
 loop-again c =
-    let l = c .before .before .before .before .before in
+    let l = c .before .before .before in
     let a = l .before .before .before .before .args in
     let t : holds (a .whole) (valueAt (now (a .image)) (l .loop .at)) (valueAt (now (a .image)) (l .loop .at + 8)) (a .x) ≡ false =
-    rw (sym (c .before .before .before .value-at .ensures), sym (c .before .before .value-at2 .ensures)) (sym (c .before .is-held .ensures) ∙ c .if3 .left) in
+    sym (c .before .is-held-at .ensures) ∙ c .if3 .left in
     (omega arith, (omega arith, (omega arith, l .loop .inv .1 .1 .1 ∙ triple-miss (now (a .image)) (a .whole) (a .x) (l .loop .at) (l .loop .left) (omega arith) t)))
 
-value-at-requires-4 : tie.Need-value-at-requires-4 Inv-loop μ-loop
-value-at-requires-4 c κs = search needs
+value-at-requires-2 : tie.Need-value-at-requires-2 Inv-loop μ-loop
+value-at-requires-2 c κs = search needs
 
 returns-4 : tie.Need-returns-4 Inv-loop μ-loop
 returns-4 c =
     let l = c .before .before in
     let a = l .before .before .before .before .args in
-    c .value-at4 .ensures ∙ sym (l .loop .inv .1 .1 .1 ∙ triple-last (now (a .image)) (a .whole) (a .x) (l .loop .at) (l .loop .left) (omega arith))
+    c .value-at2 .ensures ∙ sym (l .loop .inv .1 .1 .1 ∙ triple-last (now (a .image)) (a .whole) (a .x) (l .loop .at) (l .loop .left) (omega arith))
 
 pub apply-range-value-spec : {M : Type 1} → statement M
 apply-range-value-spec =
@@ -95,16 +86,13 @@ apply-range-value-spec =
     returns
     returns-2
     loop-holds
-    value-at-requires
+    is-held-at-requires
     add-value-at
-    value-at-requires-2
-    is-held-requires
-    add-value-at-2
-    value-at-requires-3
+    value-at-requires
     returns-3
     add-at
     sub-left
     loop-less
     loop-again
-    value-at-requires-4
+    value-at-requires-2
     returns-4)

@@ -10,9 +10,6 @@ use borrow.Author.Needs.{needs}
 use Rattle.steps.proofs.choice.default_of.Statement.{statement}
 use Rattle.steps.proofs.choice.default_of.Tie as tie
 
-reference-count-requires : tie.Need-reference-count-requires
-reference-count-requires c κs = search needs
-
 sub-lead-at : tie.Need-sub-lead-at
 sub-lead-at c = search needs
 
@@ -24,27 +21,24 @@ enum-known-a c = search needs
 
 returns : tie.Need-returns
 returns c =
-    let s = c .before .before .before .before .before .before .before .before .args in
-    let r = c .before .before .before .before .before .before .reference-count in
+    let s = c .before .before .before .before .before .before .before .args in
     let l = c .before .before .before .lead-at in
-    let last = last-of-many (now (s .image)) (s .b) (r .result) (r .ensures) (c .before .before .before .before .if2 .taken) (l .result) (l .ensures) in (
+    let last = last-of-many (now (s .image)) (s .b) (c .before .before .before .before .if2 .taken) (l .result) (l .ensures) in (
       rw (c .before .before .before .before .before .if1 .taken) (sym (last ∙ ap ifConversion (c .before .a .given .1))),
       subst (Inside (now (s .image))) (sym (l .ensures) ∙ c .before .a .given .1) (lead-at-inside (now (s .image)) (s .b) _),
     )
 
 returns-2 : tie.Need-returns-2
 returns-2 c =
-    let s = c .before .before .before .before .before .before .args in
-    let r = c .before .before .before .before .reference-count in
+    let s = c .before .before .before .before .before .args in
     let l = c .before .lead-at in
-    let last = last-of-many (now (s .image)) (s .b) (r .result) (r .ensures) (c .before .before .if2 .taken) (l .result) (l .ensures) in
+    let last = last-of-many (now (s .image)) (s .b) (c .before .before .if2 .taken) (l .result) (l .ensures) in
     (rw (c .before .before .before .if1 .taken) (sym (last ∙ no-conversion (l .result) (c .match .keys2))), tt)
 
 returns-3 : tie.Need-returns-3
 returns-3 c =
-    let s = c .before .before .before .before .args in
-    let r = c .before .before .reference-count in
-    (rw (c .before .if1 .taken) (sym (last-of-few (now (s .image)) (s .b) (r .result) (r .ensures) (c .if2 .left))), tt)
+    let s = c .before .before .before .args in
+    (rw (c .before .if1 .taken) (sym (last-of-few (now (s .image)) (s .b) (c .if2 .left))), tt)
 
 returns-4 : tie.Need-returns-4
 returns-4 c = (rw (c .if1 .left), tt)
@@ -53,7 +47,6 @@ pub default-of-spec : {M : Type 1} → statement M
 default-of-spec =
     tie.close
     (tie.spec
-    reference-count-requires
     sub-lead-at
     lead-at-requires
     enum-known-a

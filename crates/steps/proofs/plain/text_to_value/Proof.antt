@@ -1,7 +1,7 @@
 -- `steps::plain::text_to_value` meets its contract. Assumes nothing.
 use mathlib.Core.Path.{sym, ap, _∙_}
 use denote.Ref.{now}
-use Rattle.blocks.specs.Place.{valueOf}
+use Rattle.blocks.specs.View.{valueIn}
 use Rattle.steps.specs.Plain.{orUnknown, textToValue}
 use borrow.Author.Needs.{needs}
 use Rattle.steps.proofs.plain.text_to_value.Statement.{statement}
@@ -26,14 +26,14 @@ returns : tie.Need-returns
 returns c =
     let s = c .before .before .before .before .before .before .before .before .before .args in
     let img = now (s .image) in
-    ap orUnknown (sym (c .before .x .given .1) ∙ c .before .before .before .value .ensures ∙ ap (valueOf img (s .b)) (c .before .before .before .before .value-key .ensures))
+    ap orUnknown (sym (c .before .x .given .1) ∙ c .before .before .before .value .ensures ∙ ap (valueIn img (s .b)) (c .before .before .before .before .value-key .ensures))
     ∙ ap (textToValue img (s .b) (now (s .text))) (sym (c .before .before .before .before .before .if1 .taken) ∙ c .before .before .before .before .before .before .is-text .ensures)
 
 returns-2 : tie.Need-returns-2
 returns-2 c =
     let s = c .before .before .before .before .before .before .before .before .args in
     let img = now (s .image) in
-    ap orUnknown (sym (c .enum-told .given .1) ∙ c .before .before .value .ensures ∙ ap (valueOf img (s .b)) (c .before .before .before .value-key .ensures))
+    ap orUnknown (sym (c .enum-told .given .1) ∙ c .before .before .value .ensures ∙ ap (valueIn img (s .b)) (c .before .before .before .value-key .ensures))
     ∙ ap (textToValue img (s .b) (now (s .text))) (sym (c .before .before .before .before .if1 .taken) ∙ c .before .before .before .before .before .is-text .ensures)
 
 returns-3 : tie.Need-returns-3
