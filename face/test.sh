@@ -1,6 +1,7 @@
 #!/bin/sh
 # Tries the C and the Rust face on the archive of the proved code: the header and its example as C11 and C++17, the C test plain and under
-# valgrind, and the tests of the Rust crate. Where a tool is missing it says in one line what was not run, and goes on.
+# valgrind, images that only a bounded call gets through, the stack that a call takes, and the tests of the Rust crate. Where a tool is missing
+# it says in one line what was not run, and goes on.
 set -eu
 cd "$(dirname "$0")/.."
 
@@ -31,11 +32,23 @@ header() { # COMPILER LANGUAGE STANDARD
     echo "face: the header and its example are clean $3"
 }
 
+# One of the programs in face/c.
+build() { # NAME
+    # shellcheck disable=SC2086
+    gcc -std=c11 -g $warnings -Iface/c "face/c/$1.c" "$archive" -o "$made/$1"
+}
+
+# With an end from outside too, should the program's own watchdog not bark.
+watched() { if has timeout; then timeout -k 5 300 "$@"; else "$@"; fi; }
+
 c_face() {
     header gcc c c11
-    # shellcheck disable=SC2086
-    gcc -std=c11 -g $warnings -Iface/c face/c/test.c "$archive" -o "$made/test"
+    build test
     "$made/test"
+    build hostile
+    watched "$made/hostile" || { echo 'face: the work of a call is not bounded, or an answer is wrong'; exit 1; }
+    build stack
+    "$made/stack"
     if has valgrind; then
         valgrind --quiet --error-exitcode=1 --leak-check=full "$made/test"
         echo 'face: valgrind finds no error in the C test'

@@ -62,12 +62,25 @@ pub fn all(image: &mut Image) -> Vec<Case> {
     list
 }
 
-/// Twelve blocks in a row, each but the last with two references to the next: 4,095 visits. Answers the first one's address.
-pub fn doubling(image: &mut Image) -> u64 {
-    let first = image.bytes.len() as u64;
-    for i in 0..12 {
-        let next = if i == 11 { 0 } else { first + 80 * (i + 1) };
-        image.block(0, &[next, next], &[]);
+/// So many blocks in a row, each but the last with so many references to the next. Answers the first one's address.
+pub fn linked(image: &mut Image, levels: u64, references: usize) -> u64 {
+    let first = image.end();
+    let size = 64 + 8 * references as u64;
+    for level in 1..=levels {
+        let next = if level == levels { 0 } else { first + size * level };
+        image.block(0, &vec![next; references], &[]);
+    }
+    first
+}
+
+/// A full binary tree of so many levels: 2^levels - 1 different blocks, one visit each. Answers the root's address.
+pub fn tree(image: &mut Image, levels: u32) -> u64 {
+    let first = image.end();
+    let (inner, all) = ((1u64 << (levels - 1)) - 1, (1u64 << levels) - 1);
+    let place = |i: u64| if i < all { first + 80 * i } else { 0 };
+    for i in 0..all {
+        let below = if i < inner { 2 * i + 1 } else { all };
+        image.block(0, &[place(below), place(below + 1)], &[]);
     }
     first
 }

@@ -9,6 +9,11 @@ impl Image {
         Image { bytes: vec![0; 64] }
     }
 
+    /// Where the next block will stand.
+    pub fn end(&self) -> u64 {
+        self.bytes.len() as u64
+    }
+
     fn number(&mut self, n: u64) {
         self.bytes.extend_from_slice(&n.to_le_bytes());
     }
@@ -22,7 +27,7 @@ impl Image {
 
     /// A text block, filled up with zeros to a multiple of 8. Answers its address.
     pub fn text(&mut self, text: &str) -> u64 {
-        let at = self.bytes.len() as u64;
+        let at = self.end();
         let size = (text.len() + 8) / 8 * 8;
         self.header(b"##TX", 24 + size, 0);
         self.bytes.extend_from_slice(text.as_bytes());
@@ -32,7 +37,7 @@ impl Image {
 
     /// A conversion block of a type, with its references and its values as 64 bits each. Answers its address.
     pub fn words(&mut self, kind: u8, name: u64, refs: &[u64], values: &[u64]) -> u64 {
-        let at = self.bytes.len() as u64;
+        let at = self.end();
         self.header(b"##CC", 64 + 8 * refs.len() + 8 * values.len(), 4 + refs.len());
         self.number(name);
         for _ in 0..3 {

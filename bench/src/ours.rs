@@ -19,6 +19,13 @@ pub struct Checked {
     pub address: u64,
 }
 
+#[repr(C)]
+pub struct Shown {
+    pub from_image: u32,
+    pub start: u64,
+    pub length: u64,
+}
+
 extern "C" {
     pub fn mdf_check(image: *const u8, image_len: usize, address: u64, limit: u32) -> Checked;
     pub fn mdf_apply_unsigned(image: *const u8, image_len: usize, address: u64, limit: u32, value: u64, out: *mut u8, out_len: usize) -> Applied;
@@ -33,4 +40,5 @@ extern "C" {
         out: *mut u8,
         out_len: usize,
     ) -> Applied;
+    pub fn mdf_translate(image: *const u8, image_len: usize, address: u64, limit: u32, question: *const u8, question_len: usize) -> Shown;
 }

@@ -1,4 +1,5 @@
 // Two comparisons of a scene: of a side with the crate, in the domain, and of two sides with each other, everywhere.
+use crate::bound::tree_of;
 use crate::domain::{self, Place};
 use crate::scene::{Ask, Fields, Scene};
 use crate::second::RIGHT;
@@ -8,6 +9,7 @@ use crate::theirs::{self, Outcome};
 use oracle::blocks::conversion::ConversionBlock;
 use oracle::error::MdfError;
 use oracle::parsing::decoder::DecodedValue;
+use std::collections::HashMap;
 use std::fmt::Debug;
 
 /// What differs, in a word, and the two answers.
@@ -40,6 +42,9 @@ const CRATE_LIMIT: u32 = 20_000;
 /// More links than this are not shown to the crate, which would ask for their memory at once.
 const CRATE_LINKS: u64 = 1 << 20;
 
+/// Of a hostile image the crate copies each text each time that a reference leads to it: no more bytes than this.
+const CRATE_TEXTS: u64 = 4_000_000;
+
 /// A side against the crate.
 pub fn with_crate(side: &dyn Side, scene: &Scene, tally: &mut Tally) -> Verdict {
     written_fields(side, &scene.fields, tally)?;
@@ -49,6 +54,11 @@ pub fn with_crate(side: &dyn Side, scene: &Scene, tally: &mut Tally) -> Verdict 
     if RIGHT.check(&scene.image, scene.address, CRATE_LIMIT).refusal == 3 {
         return Ok(());
     }
+    if scene.hostile && tree_of(&scene.image, scene.address, &mut HashMap::new()).texts > CRATE_TEXTS {
+        tally.add("crate, hostile images", "not asked, too much text");
+        return Ok(());
+    }
+    tally.add_if(scene.hostile, "crate, hostile images", "asked");
     let checked = side.check(&scene.image, scene.address, CRATE_LIMIT);
     let theirs = theirs::resolved(&scene.image, scene.address);
     compare_walk(checked, &theirs, tally)?;

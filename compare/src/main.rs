@@ -9,9 +9,11 @@
 //     compare record FOLDER EACH SEED
 //                                so many of the crate's answers for each root type, as stdin and stdout of the program replay
 //     compare list               WRONG-BUILDS.md
+mod bound;
 mod damage;
 mod domain;
 mod grow;
+mod hostile;
 mod judge;
 mod lent;
 mod numbers;
@@ -31,6 +33,7 @@ mod theirs;
 mod watch;
 mod wrong;
 
+use bound::{within, TOO_LONG};
 use judge::{guards_stand, with_crate, with_side, Difference};
 use lent::Guarded;
 use ours::Ours;
@@ -43,9 +46,9 @@ use tally::Tally;
 /// A run stops after so many differences.
 const MOST_DIFFERENCES: usize = 10;
 
-/// What differs in a scene, from the second reading, from the crate, or at a guard.
+/// What differs in a scene, from the second reading, from the crate, in time, or at a guard.
 fn judged(ours: &Guarded<Ours>, scene: &Scene, tally: &mut Tally) -> Option<Difference> {
-    let verdict = with_side(ours, &RIGHT, scene, tally).and_then(|_| with_crate(ours, scene, tally));
+    let verdict = with_side(ours, &RIGHT, scene, tally).and_then(|_| with_crate(ours, scene, tally)).and_then(|_| within(&Ours, scene, tally));
     let guards = guards_stand(ours);
     verdict.and(guards).err()
 }
@@ -60,7 +63,9 @@ fn run(seed: u64, from: u64, to: u64) -> usize {
         let scene = Scene::new(seed, number);
         if let Some(difference) = judged(&ours, &scene, &mut tally) {
             println!("difference at image {number} of seed {seed}: {}\n  {}", difference.what, difference.detail);
-            reduce::tell_smallest(scene, &|s| judged(&ours, s, &mut Tally::default()));
+            if difference.what != TOO_LONG {
+                reduce::tell_smallest(scene, &|s| judged(&ours, s, &mut Tally::default()));
+            }
             differences += 1;
             if differences == MOST_DIFFERENCES {
                 break;

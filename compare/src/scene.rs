@@ -2,6 +2,7 @@
 // Seed and number give the same scene on every machine.
 use crate::damage;
 use crate::grow::Grower;
+use crate::hostile;
 use crate::lent::LARGEST_IMAGE;
 use crate::numbers;
 use crate::random::Random;
@@ -11,8 +12,15 @@ use crate::side::{Block, Side, Value};
 /// So many values are asked in each scene.
 pub const ASKS: usize = 8;
 
+/// The last image of each so many is a hostile one.
+const HOSTILE_EVERY: u64 = 1000;
+
 /// A limit that no grown tree reaches.
 const WIDE_LIMIT: u32 = 20_000;
+
+fn is_hostile(number: u64) -> bool {
+    number % HOSTILE_EVERY == HOSTILE_EVERY - 1
+}
 
 #[derive(Clone)]
 pub struct Ask {
@@ -36,11 +44,16 @@ pub struct Scene {
     pub limit: u32,
     pub asks: Vec<Ask>,
     pub fields: Fields,
+    /// Whether the work of its calls is measured.
+    pub hostile: bool,
 }
 
 impl Scene {
     pub fn new(seed: u64, number: u64) -> Scene {
         let mut r = Random::new(seed, number);
+        if is_hostile(number) {
+            return Scene::hostile(&mut r);
+        }
         let grown = Grower::grow(&mut r);
         let mut laid = grown.plan.lay(&mut r);
         let mut address = laid.places[grown.plan.root];
@@ -56,22 +69,43 @@ impl Scene {
         let limit = limit(&laid.image, address, &mut r);
         let root = RIGHT.opened(&laid.image, address);
         let wants_text = root.is_some_and(|b| b.kind == 9 || b.kind == 10);
-        let mut scene = Scene { image: laid.image, address, limit, asks: Vec::new(), fields: fields(&mut r) };
+        let mut scene = Scene { image: laid.image, address, limit, asks: Vec::new(), fields: fields(&mut r), hostile: false };
         for _ in 0..ASKS {
             let value = numbers::value(&mut r, &grown.palette, wants_text);
             let text = if value == Value::Text { numbers::question(&mut r, &grown.texts) } else { Vec::new() };
-            let room = scene.room(value, &text, &mut r);
+            let room = scene.room(value, &text, 600, &mut r);
+            scene.asks.push(Ask { value, text, room });
+        }
+        scene
+    }
+
+    /// A hostile image, which is not damaged; the room is mostly small.
+    fn hostile(r: &mut Random) -> Scene {
+        let grown = hostile::grow(r);
+        let laid = grown.plan.lay(r);
+        let address = laid.places[grown.plan.root];
+        let limit = limit(&laid.image, address, r);
+        let wants_text = RIGHT.opened(&laid.image, address).is_some_and(|b| b.kind == 9 || b.kind == 10);
+        let mut scene = Scene { image: laid.image, address, limit, asks: Vec::new(), fields: fields(r), hostile: true };
+        for _ in 0..ASKS {
+            let value = match r.below(10) {
+                0 => numbers::value(r, &grown.palette, wants_text),
+                _ if wants_text => Value::Text,
+                _ => Value::Unsigned(numbers::whole(r)),
+            };
+            let text = if value == Value::Text { numbers::question(r, &grown.texts) } else { Vec::new() };
+            let room = if r.chance(60) { r.pick(&[64, 64, 64, 0, 1]) } else { scene.room(value, &text, 4000, r) };
             scene.asks.push(Ask { value, text, room });
         }
         scene
     }
 
     /// Room for the answer: mostly more than enough, sometimes just enough, or one byte less.
-    fn room(&self, value: Value, text: &[u8], r: &mut Random) -> usize {
+    fn room(&self, value: Value, text: &[u8], enough: usize, r: &mut Random) -> usize {
         if r.chance(70) {
-            return 600;
+            return enough;
         }
-        let mut out = vec![0; 600];
+        let mut out = vec![0; enough];
         let length = RIGHT.apply(&self.image, self.address, self.limit, value, text, &mut out).length as usize;
         r.pick(&[length, length, length.saturating_sub(1), length.saturating_sub(1), length + 1, 0, length / 2])
     }

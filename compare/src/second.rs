@@ -28,6 +28,13 @@ struct Walk<'a> {
     seen: Vec<u64>,
 }
 
+/// A nested reference of a block, and how many visits it took.
+#[derive(Default)]
+struct Remembered {
+    link: u64,
+    visits: u64,
+}
+
 impl Second {
     fn is(&self, wrong: Wrong) -> bool {
         self.wrong == wrong
@@ -85,11 +92,29 @@ impl Second {
         }
         let walked = !self.is(Wrong::OnlyTextTypesWalked) || [7, 8, 11].contains(&found.kind);
         walk.path.push(address);
+        let mut last = Remembered::default();
         for &link in found.refs.iter().filter(|_| walked) {
+            if self.is_remembered(&last, walk, link) {
+                walk.visits += last.visits;
+                continue;
+            }
+            let before = walk.visits;
             self.follow_link(walk, link, address, depth)?;
+            if walk.visits > before {
+                last = Remembered { link, visits: walk.visits - before };
+            }
         }
         walk.path.pop();
         Ok(())
+    }
+
+    /// Whether a wrong build adds the visits of the last nested reference in the place of walking this one.
+    fn is_remembered(&self, last: &Remembered, walk: &Walk, link: u64) -> bool {
+        match self.wrong {
+            Wrong::RememberedPastLimit => last.link == link && last.visits > 0,
+            Wrong::RememberedForAnother => last.visits > 0 && !walk.path.contains(&link) && block::id_at(walk.image, link) == Some(b"##CC"),
+            _ => false,
+        }
     }
 
     /// The five steps of one reference.
@@ -129,6 +154,8 @@ impl Second {
     }
 
     fn put_text(&self, text: &[u8], out: &mut [u8], answer: &mut Applied) {
+        let cut = self.is(Wrong::TextCutAtRoom);
+        let text = &text[..if cut { text.len().min(out.len()) } else { text.len() }];
         let fits = text.len() + self.is(Wrong::RoomOneByteMore) as usize <= out.len();
         let written = text.len().min(out.len());
         if fits || self.is(Wrong::TextBeforeLength) {
@@ -160,7 +187,7 @@ impl Side for Second {
         match self.accepted(image, address, limit) {
             Err((refusal, address)) => Applied { refusal, kind: 0, number: 0.0, length: 0, address, checked: 0, applied: 0 },
             Ok(checked) => {
-                let mut run = Application { second: self, image, text, begun: 0, longest: 0 };
+                let mut run = Application { second: self, image, text, most: out.len() + 1, begun: 0, longest: 0 };
                 let says = run.apply(address, value);
                 self.settle(checked, run, says, out)
             }
@@ -177,15 +204,15 @@ impl Side for Second {
         if root.kind != 10 && !self.is(Wrong::ShownForAnyType) {
             return whole_question;
         }
-        match self.chosen_text(image, &root.refs, question) {
-            Some((from, to)) if from == to && self.is(Wrong::EmptyTextNotShown) => whole_question,
-            Some((from, _)) if self.is(Wrong::ShownWithZeros) => {
-                let end = block::text_block_end(image, from);
-                Shown { from_image: 1, start: from as u64, length: (end - from) as u64 }
-            }
-            Some((from, to)) => Shown { from_image: 1, start: from as u64, length: (to - from) as u64 },
-            None => whole_question,
+        let Some((from, to)) = self.chosen_text(image, &root.refs, question) else { return whole_question };
+        let length = match self.wrong {
+            Wrong::ShownWithZeros => block::text_block_end(image, from) - from,
+            _ => self.said(image, (from, to), usize::MAX).len(),
+        };
+        if length == 0 && self.is(Wrong::EmptyTextNotShown) {
+            return whole_question;
         }
+        Shown { from_image: 1, start: from as u64, length: length as u64 }
     }
 
     fn parse(&self, image: &[u8], address: u64) -> Parsed {

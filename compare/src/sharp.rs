@@ -1,9 +1,10 @@
 // Is the comparison sharp? Each wrong build takes the place of ours and has to be caught by the judge that the list names.
+use crate::bound::within;
 use crate::judge::{with_crate, with_side, Difference};
 use crate::ours::Ours;
 use crate::reduce;
 use crate::scene::Scene;
-use crate::second::Second;
+use crate::second::{Second, RIGHT};
 use crate::spill::guards_see;
 use crate::tally::Tally;
 use crate::wrong::{Judge, Wrong, LIST};
@@ -16,6 +17,8 @@ fn verdict(wrong: Wrong, judge: Judge, scene: &Scene) -> Option<Difference> {
     match judge {
         Judge::Crate => with_crate(&build, scene, &mut tally).err(),
         Judge::Ours => with_side(&build, &Ours, scene, &mut tally).err(),
+        // Where the second reading with no rule broken is in time.
+        Judge::Clock => within(&build, scene, &mut tally).err().filter(|_| within(&RIGHT, scene, &mut tally).is_ok()),
     }
 }
 
@@ -35,7 +38,7 @@ fn caught_after(wrong: Wrong, judge: Judge, seed: u64, scenes: u64) -> Option<u6
 /// Runs all wrong builds; true if each is caught.
 pub fn run(seed: u64, scenes: u64) -> bool {
     let sound = guards_see(seed, scenes) && page_is_the_list();
-    let mut caught = [0, 0];
+    let mut caught = [0, 0, 0];
     for (i, &(wrong, judge, says)) in LIST.iter().enumerate() {
         match caught_after(wrong, judge, seed, scenes) {
             Some(n) => {
@@ -45,8 +48,9 @@ pub fn run(seed: u64, scenes: u64) -> bool {
             None => println!("{:3} NOT caught by {judge:?} in {scenes} images: {says}", i + 1),
         }
     }
-    let all = caught[0] + caught[1];
-    println!("{all} of {} wrong builds caught: {} by the crate, {} by the proved build", LIST.len(), caught[0], caught[1]);
+    let all: usize = caught.iter().sum();
+    let [by_crate, by_ours, by_clock] = caught;
+    println!("{all} of {} wrong builds caught: {by_crate} by the crate, {by_ours} by the proved build, {by_clock} by the clock", LIST.len());
     sound && all == LIST.len()
 }
 
@@ -61,7 +65,9 @@ pub fn list() -> String {
         String::new(),
         "\"Crate\": the comparison with the crate has to catch it. \"Ours\": the crate has no such rule or no say, and the comparison with the"
             .to_string(),
-        "proved build has to catch it. `compare list` prints this page, and `make sharp` says so if it is not the list that was run.".to_string(),
+        "proved build has to catch it. \"Clock\": all its answers are right, and the time of its calls on hostile images has to give it away."
+            .to_string(),
+        "`compare list` prints this page, and `make sharp` says so if it is not the list that was run.".to_string(),
         String::new(),
         "| no. | caught by | the broken rule |".to_string(),
         "|---|---|---|".to_string(),

@@ -1,10 +1,11 @@
 // The wrong builds: each is the second reading with one rule of document 01 broken. WRONG-BUILDS.md is this list in words.
 
-/// Who has to catch a wrong build: the crate, or the proved build where the crate has no such rule or no say.
+/// Who has to catch a wrong build: the crate; the proved build where the crate has no such rule or no say; the clock where all answers are right.
 #[derive(Clone, Copy, Debug, PartialEq, Eq)]
 pub enum Judge {
     Crate,
     Ours,
+    Clock,
 }
 
 macro_rules! wrong_builds {
@@ -136,4 +137,11 @@ wrong_builds! {
     WriterRoomFirst Ours "refusal 8 comes before 9",
     WriterCountOneLess Ours "65,535 values are too many",
     WriterHeaderFirst Ours "the header is written before the room is known",
+    TextCutAtRoom Crate "a text is cut at the room and taken as fitting",
+    ZeroEndsQuestion Crate "a zero byte of the question counts as a key's end",
+    RememberedPastLimit Ours "the visits of a reference that comes again are added past the limit",
+    RememberedForAnother Crate "the visits of a reference are added for another one too",
+    TextsReadWhole Clock "a text is read to its end wherever a reference leads to it",
+    KeysReadWhole Clock "a key is read to its end before it is compared",
+    NamesReadWhole Clock "a name is read to its end",
 }

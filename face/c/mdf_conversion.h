@@ -36,6 +36,23 @@
  * - `out` shares no byte with another slice of the call, and no other thread writes to a slice, or reads `out`, while the call runs.
  *
  * A call keeps nothing, and uses no heap and no variable of its own. Calls may run at the same time.
+ *
+ * What a call can cost. With S the bytes of the image, N the visits of the check, which are at most `limit`, B the bytes of the largest block that
+ * is visited, and R the bytes of `out`:
+ * - mdf_check takes at most a constant times N * B. It looks at each reference of a visited block once and reads no text. A reference that is the
+ *   same as the last one of its block that led to a nested block is counted and not walked again, so that blocks which link many times to the
+ *   next cost their bytes, not their visits.
+ * - An application takes at most a constant times S + N * (B + R), and for a text value of Q bytes Q + r * (Q + 1) more, r being the references of
+ *   the block at `address`. A text of the image is looked at no further than one byte past the room that is left, a key no further than one byte
+ *   past the value's end: how long a text is plays no part, nor how many references lead to it.
+ * - mdf_translate takes what the check and the keys take, and reads the text that it shows once, to its end.
+ * - mdf_parse and mdf_write take their block.
+ *
+ * So `limit` and the length of `out` are the caller's brake. Choose a limit well above the nested blocks that one conversion is expected to have:
+ * 4096 is generous, while 4294967295 lets an image of some kilobytes begin that many visits. Choose `out` as long as the longest text that can be shown: a
+ * longer one is refused with 8 at no more cost.
+ *
+ * Stack: at most 9,288 bytes below the caller, at 21 levels of nested blocks, the most that the check accepts.
  */
 #ifndef MDF_CONVERSION_H
 #define MDF_CONVERSION_H

@@ -14,11 +14,13 @@ pub enum Says {
     Unknown,
 }
 
-/// One application: the blocks begun so far, and the longest text that was being made.
+/// One application: the blocks begun so far, and the longest text that was being made. Of a text `most` bytes are kept, one more than the room
+/// that is left: that is enough to say whether it fits, and images with many long texts stay quick.
 pub struct Application<'a> {
     pub second: &'a Second,
     pub image: &'a [u8],
     pub text: &'a [u8],
+    pub most: usize,
     pub begun: u32,
     pub longest: usize,
 }
@@ -47,10 +49,16 @@ impl Second {
     }
 
     fn key_is(&self, image: &[u8], link: u64, question: &[u8]) -> bool {
-        match self.text_of(image, link) {
-            Some((from, to)) if self.is(Wrong::KeyPrefix) => image[from..to].starts_with(question),
-            Some((from, to)) => &image[from..to] == question,
-            None => false,
+        let Some(part) = self.text_of(image, link) else { return false };
+        let key = self.said(image, part, question.len() + 1);
+        match self.wrong {
+            Wrong::KeyPrefix => key.starts_with(question),
+            Wrong::ZeroEndsQuestion if question.starts_with(key) => !question.get(key.len()).is_some_and(|&b| b != 0),
+            Wrong::KeysReadWhole => {
+                self.read_whole(image, part);
+                key == question
+            }
+            _ => key == question,
         }
     }
 
@@ -59,7 +67,12 @@ impl Second {
             return Lead::Nil;
         }
         match (self.text_of(image, link), block::id_at(image, link)) {
-            (Some((from, to)), _) => Lead::Text(from, to),
+            (Some((from, to)), _) => {
+                if self.is(Wrong::TextsReadWhole) {
+                    self.read_whole(image, (from, to));
+                }
+                Lead::Text(from, to)
+            }
             (None, Some(b"##CC")) => Lead::Conversion(link),
             _ => Lead::Nowhere,
         }
@@ -88,6 +101,11 @@ impl Second {
 impl Application<'_> {
     fn is(&self, wrong: Wrong) -> bool {
         self.second.is(wrong)
+    }
+
+    /// The bytes of a text that are kept.
+    fn kept(&self, from: usize, to: usize) -> Vec<u8> {
+        self.second.said(self.image, (from, to), self.most).to_vec()
     }
 
     /// The block at an address that the check has accepted, applied to a value.
@@ -147,7 +165,7 @@ impl Application<'_> {
         let lead = self.second.lead(self.image, reference.unwrap_or(0));
         let default = self.default_conversion(found);
         match lead {
-            Lead::Text(from, to) => return Ok(Says::Text(self.image[from..to].to_vec())),
+            Lead::Text(from, to) => return Ok(Says::Text(self.kept(from, to))),
             Lead::Conversion(address) => return self.nested(address, value),
             Lead::Nil if matched => {
                 let unchanged = match reference {
@@ -203,7 +221,7 @@ impl Application<'_> {
 
     fn text_to_text(&self, found: &Found) -> Says {
         match self.second.chosen_text(self.image, &found.refs, self.text) {
-            Some((from, to)) => Says::Text(self.image[from..to].to_vec()),
+            Some((from, to)) => Says::Text(self.kept(from, to)),
             None if self.is(Wrong::NoTranslationUnknown) => Says::Unknown,
             None => Says::Unchanged,
         }
@@ -211,30 +229,35 @@ impl Application<'_> {
 
     fn bit_groups(&mut self, found: &Found, value: Value) -> Result<Says, Formula> {
         let Some(bits) = self.second.group_bits(value) else { return Ok(Says::Unchanged) };
-        let mut parts: Vec<Vec<u8>> = Vec::new();
+        let (mut parts, mut length): (Vec<Vec<u8>>, usize) = (Vec::new(), 0);
+        let most = self.most;
         for (&link, &word) in found.refs.iter().zip(&found.values) {
             if link == 0 && self.is(Wrong::NilEndsGroups) {
                 break;
             }
+            self.most = most.saturating_sub(length);
             if let Some(part) = self.part(found, link, bits, bits & self.second.mask(word))? {
                 if !(part.is_empty() && self.is(Wrong::EmptyPartDropped)) {
+                    length += part.len() + !parts.is_empty() as usize;
                     parts.push(part);
                 }
             }
-            let length = parts.iter().map(|p| p.len() + 1).sum::<usize>().saturating_sub(1);
             self.longest = self.longest.max(length);
         }
         if parts.is_empty() && self.is(Wrong::NoPartsUnchanged) {
             return Ok(Says::Unchanged);
         }
-        Ok(Says::Text(parts.join(&b'|')))
+        self.most = most;
+        let mut text = parts.join(&b'|');
+        text.truncate(most);
+        Ok(Says::Text(text))
     }
 
     /// What one group adds, if anything.
     fn part(&mut self, groups: &Found, link: u64, whole: u64, masked: u64) -> Result<Option<Vec<u8>>, Formula> {
         match self.second.lead(self.image, link) {
             Lead::Text(..) if masked == 0 && self.is(Wrong::TextPartNeedsBits) => Ok(None),
-            Lead::Text(from, to) => Ok(Some(self.image[from..to].to_vec())),
+            Lead::Text(from, to) => Ok(Some(self.kept(from, to))),
             Lead::Conversion(_) if masked == 0 && self.is(Wrong::GroupNeedsBits) => Ok(None),
             Lead::Conversion(address) => {
                 let value = match self.second.wrong {
@@ -260,7 +283,12 @@ impl Application<'_> {
             _ => own,
         };
         match self.second.text_of(self.image, link) {
-            Some((from, to)) => [&self.image[from..to], b" = ", &text].concat(),
+            Some((from, to)) => {
+                if self.is(Wrong::NamesReadWhole) {
+                    self.second.read_whole(self.image, (from, to));
+                }
+                [&self.kept(from, to)[..], b" = ", &text].concat()
+            }
             None => text,
         }
     }

@@ -2,6 +2,7 @@
 use super::Second;
 use crate::side::Block;
 use crate::wrong::Wrong;
+use std::hint::black_box;
 
 /// A whole ##CC block, everything read out of the image; floats as their 64 bits.
 pub struct Found {
@@ -105,7 +106,7 @@ impl Second {
         }
     }
 
-    /// The text that a link gives, as its places in the image.
+    /// The places in the image that the text of a link may take: its bytes end at the first zero byte there, see `said`.
     pub fn text_of(&self, image: &[u8], link: u64) -> Option<(usize, usize)> {
         let id = if link == 0 { None } else { id_at(image, link) };
         if !(id == Some(b"##TX") || id == Some(b"##MD") && self.is(Wrong::MetadataIsText)) {
@@ -124,11 +125,21 @@ impl Second {
             end = image.len() as u128;
         }
         let end = if self.is(Wrong::TextPastBlock) { image.len() } else { end as usize };
-        let zero = image[from..end].iter().position(|&b| b == 0);
-        match zero {
-            Some(n) if !self.is(Wrong::TextWithZeros) => Some((from, from + n)),
-            _ => Some((from, end)),
+        Some((from, end))
+    }
+
+    /// The bytes of a text, no more than `most` of them.
+    pub fn said<'a>(&self, image: &'a [u8], (from, end): (usize, usize), most: usize) -> &'a [u8] {
+        let bytes = &image[from..end.min(from.saturating_add(most))];
+        match bytes.iter().position(|&b| b == 0) {
+            Some(n) if !self.is(Wrong::TextWithZeros) => &bytes[..n],
+            _ => bytes,
         }
+    }
+
+    /// What the wrong builds do that read a text to its end where no byte of it is needed.
+    pub fn read_whole(&self, image: &[u8], (from, end): (usize, usize)) {
+        black_box(image[from..end].iter().position(|&b| b == 0));
     }
 
     /// The bytes that the writer writes.

@@ -1,0 +1,188 @@
+// Images of few bytes that made a call run on. At size s an image has s times the references and s times the text of size 1: a call that reads
+// each text to its end grows with s * s, a bounded one with s. The visits of `groups in groups` and `deep groups` stay as they are, so that what
+// grows is the block; those of `names` and `choices` grow, and their nested blocks stay as they are.
+use crate::cases::linked;
+use crate::image::Image;
+use crate::ours;
+use std::hint::black_box;
+
+const LIMIT: u32 = 8192;
+const ROOM: usize = 64;
+
+enum Call {
+    Check,
+    Number(u64),
+    Text(&'static str),
+    Translate(&'static str),
+}
+
+/// One call, with all that is lent to it.
+pub struct Asked {
+    bytes: Vec<u8>,
+    address: u64,
+    limit: u32,
+    call: Call,
+}
+
+pub struct Hostile {
+    pub name: &'static str,
+    pub says: &'static str,
+    build: fn(usize) -> Asked,
+}
+
+#[rustfmt::skip]
+pub const ALL: &[Hostile] = &[
+    Hostile {
+        name: "groups-in-groups",
+        says: "9 levels of bit groups, each block twice to the next, all other groups to one long ##TX",
+        build: groups_in_groups,
+    },
+    Hostile { name: "deep-groups", says: "21 levels of bit groups, all groups but the last to one long ##TX", build: deep_groups },
+    Hostile { name: "groups", says: "bit groups, all groups to one long ##TX", build: groups },
+    Hostile { name: "choices", says: "bit groups, all groups to one type 7 that chooses one long ##TX", build: choices },
+    Hostile { name: "names", says: "bit groups, nested blocks of type 7 that share one long name", build: names },
+    Hostile { name: "names-of-numbers", says: "bit groups, nested blocks of type 1 that share one long name", build: names_of_numbers },
+    Hostile { name: "keys-9", says: "type 9, all references to one long ##TX, a question of one byte", build: keys_of_9 },
+    Hostile { name: "keys-10", says: "type 10, all references to one long ##TX, a question of one byte", build: keys_of_10 },
+    Hostile { name: "keys-10-shown", says: "the same, by mdf_translate", build: keys_of_10_shown },
+    Hostile { name: "text-7", says: "type 7, all references to one very long ##TX", build: text_of_7 },
+    Hostile { name: "text-8", says: "type 8, all references to one very long ##TX", build: text_of_8 },
+    Hostile { name: "linked-again", says: "the check of 10 blocks that each link 4 and 8 times to the next, limit 4,294,967,295", build: again },
+];
+
+/// The image of this name at a size.
+pub fn named(name: &str, size: usize) -> Asked {
+    let found = ALL.iter().find(|h| h.name == name);
+    (found.expect("the name of a hostile image").build)(size)
+}
+
+impl Asked {
+    pub fn bytes(&self) -> usize {
+        self.bytes.len()
+    }
+
+    /// So many calls.
+    pub fn calls(&self, n: usize) {
+        let mut out = [0u8; ROOM];
+        let (p, l, at, limit, o) = (self.bytes.as_ptr(), self.bytes.len(), self.address, self.limit, out.as_mut_ptr());
+        for _ in 0..n {
+            match self.call {
+                Call::Check => look(unsafe { ours::mdf_check(p, l, at, limit) }),
+                Call::Number(v) => look(unsafe { ours::mdf_apply_unsigned(p, l, at, limit, v, o, ROOM) }),
+                Call::Text(t) => look(unsafe { ours::mdf_apply_text(p, l, at, limit, t.as_ptr(), t.len(), o, ROOM) }),
+                Call::Translate(t) => look(unsafe { ours::mdf_translate(p, l, at, limit, t.as_ptr(), t.len()) }),
+            }
+        }
+    }
+}
+
+/// An answer, looked at where it is.
+fn look<T>(answer: T) {
+    black_box(&answer);
+}
+
+fn asked(image: Image, address: u64, call: Call) -> Asked {
+    Asked { bytes: image.bytes, address, limit: LIMIT, call }
+}
+
+/// A text of so many bytes, all alike.
+fn long(image: &mut Image, length: usize) -> u64 {
+    image.text(&"x".repeat(length))
+}
+
+/// A block of bit groups; every mask is all bits.
+fn of_groups(image: &mut Image, refs: &[u64]) -> u64 {
+    image.words(11, 0, refs, &vec![u64::MAX; refs.len()])
+}
+
+fn groups_in_groups(s: usize) -> Asked {
+    let mut image = Image::new();
+    let text = long(&mut image, 2000 * s);
+    let mut at = of_groups(&mut image, &vec![text; 16 * s + 2]);
+    for _ in 1..9 {
+        at = of_groups(&mut image, &[vec![at, at], vec![text; 16 * s]].concat());
+    }
+    asked(image, at, Call::Number(1))
+}
+
+fn deep_groups(s: usize) -> Asked {
+    let mut image = Image::new();
+    let text = long(&mut image, 2000 * s);
+    let mut at = of_groups(&mut image, &vec![text; 100 * s]);
+    for _ in 1..21 {
+        at = of_groups(&mut image, &[vec![text; 100 * s - 1], vec![at]].concat());
+    }
+    asked(image, at, Call::Number(1))
+}
+
+fn groups(s: usize) -> Asked {
+    let mut image = Image::new();
+    let text = long(&mut image, 4000 * s);
+    let at = of_groups(&mut image, &vec![text; 2000 * s]);
+    asked(image, at, Call::Number(1))
+}
+
+fn choices(s: usize) -> Asked {
+    let mut image = Image::new();
+    let text = long(&mut image, 4000 * s);
+    let chooses = image.words(7, 0, &[text], &[]);
+    let at = of_groups(&mut image, &vec![chooses; 2000 * s]);
+    asked(image, at, Call::Number(1))
+}
+
+fn names(s: usize) -> Asked {
+    let mut image = Image::new();
+    let (name, short) = (long(&mut image, 4000 * s), image.text("on"));
+    let nested: Vec<u64> = (0..1000 * s).map(|_| image.words(7, name, &[short], &[])).collect();
+    let at = of_groups(&mut image, &nested);
+    asked(image, at, Call::Number(1))
+}
+
+fn names_of_numbers(s: usize) -> Asked {
+    let mut image = Image::new();
+    let name = long(&mut image, 4000 * s);
+    let nested: Vec<u64> = (0..1000 * s).map(|_| image.words(1, name, &[], &[])).collect();
+    let at = of_groups(&mut image, &nested);
+    asked(image, at, Call::Number(1))
+}
+
+fn keys(kind: u8, s: usize, call: Call) -> Asked {
+    let mut image = Image::new();
+    let text = long(&mut image, 4000 * s);
+    let at = image.words(kind, 0, &vec![text; 2000 * s + 1], &[]);
+    asked(image, at, call)
+}
+
+fn keys_of_9(s: usize) -> Asked {
+    keys(9, s, Call::Text("x"))
+}
+
+fn keys_of_10(s: usize) -> Asked {
+    keys(10, s, Call::Text("x"))
+}
+
+fn keys_of_10_shown(s: usize) -> Asked {
+    keys(10, s, Call::Translate("x"))
+}
+
+fn text_of_7(s: usize) -> Asked {
+    let mut image = Image::new();
+    let text = long(&mut image, 1_000_000 * s);
+    let keys: Vec<f64> = (0..1000 * s).map(|k| k as f64).collect();
+    let at = image.block(7, &vec![text; keys.len() + 1], &keys);
+    asked(image, at, Call::Number(999_999))
+}
+
+fn text_of_8(s: usize) -> Asked {
+    let mut image = Image::new();
+    let text = long(&mut image, 1_000_000 * s);
+    let bounds: Vec<f64> = (0..1000 * s).flat_map(|k| [k as f64, k as f64]).collect();
+    let at = image.block(8, &vec![text; bounds.len() / 2 + 1], &bounds);
+    asked(image, at, Call::Number(999_999))
+}
+
+fn again(s: usize) -> Asked {
+    let mut image = Image::new();
+    let address = linked(&mut image, 10, 4 * s);
+    Asked { bytes: image.bytes, address, limit: u32::MAX, call: Call::Check }
+}

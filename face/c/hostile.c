@@ -1,0 +1,238 @@
+/* Images on which only a call whose work is bounded ends at all: some hundred thousand references to one text of 64 MB. Each call has to end, with
+ * the right answer. No time is asserted: a watchdog stops the program where a call does not end.
+ *
+ * The bound that holds for every call stands in mdf_conversion.h, "What a call can cost". */
+#define _POSIX_C_SOURCE 200809L
+#include "mdf_conversion.h"
+
+#include "build.h"
+
+#include <signal.h>
+#include <stdbool.h>
+#include <stdio.h>
+#include <stdlib.h>
+#include <unistd.h>
+
+#define PATIENCE 60           /* seconds a call may take; a bounded one takes some hundredths of a second */
+#define LONG ((size_t)1 << 26) /* bytes of the long text */
+#define CAPACITY (LONG + ((size_t)1 << 25))
+#define LIMIT 100000
+#define ROOM 64
+#define FILL 0xa5
+#define ALL_BITS UINT64_MAX
+
+static uint64_t long_text, short_text; /* "xxx..", and "x" */
+static size_t behind_texts;
+static uint8_t out[ROOM];
+
+/* ---- the watchdog ---- */
+
+static const char *volatile calling;
+
+static void stopped(int number) {
+    (void)number;
+    static const char said[] = "hostile images: a call does not end: ";
+    if (write(1, said, sizeof said - 1) < 0 || write(1, calling, strlen(calling)) < 0 || write(1, "\n", 1) < 0) _exit(2);
+    _exit(1);
+}
+
+/* ---- counting ---- */
+
+static int passed, failed;
+
+static void expect(bool holds) {
+    if (holds) {
+        passed++;
+    } else {
+        failed++;
+        printf("failed: %s\n", calling);
+    }
+}
+
+/* The next image stands behind the two texts. Names it, and winds the watchdog up. */
+static void begin(const char *name) {
+    calling = name;
+    built_len = behind_texts;
+    memset(out, FILL, sizeof out);
+    alarm(PATIENCE);
+}
+
+static bool untouched(size_t from) {
+    for (size_t i = from; i < sizeof out; i++) {
+        if (out[i] != FILL) return false;
+    }
+    return true;
+}
+
+static mdf_applied of_number(uint64_t at, uint64_t value) {
+    return mdf_apply_unsigned(built, built_len, at, LIMIT, value, out, sizeof out);
+}
+
+static mdf_applied of_x(uint64_t at) {
+    return mdf_apply_text(built, built_len, at, LIMIT, (const uint8_t *)"x", 1, out, sizeof out);
+}
+
+/* Refused for room, with these visits of check and application. */
+static void expect_room(mdf_applied a, uint32_t checked, uint32_t applied) {
+    expect(a.refusal == MDF_REFUSED_ROOM && a.kind == MDF_KIND_REFUSED && a.checked == checked && a.applied == applied && untouched(0));
+}
+
+/* The text "x", with these visits. */
+static void expect_x(mdf_applied a, uint32_t checked, uint32_t applied) {
+    bool said = a.refusal == 0 && a.kind == MDF_KIND_TEXT && a.length == 1 && out[0] == 'x' && untouched(1);
+    expect(said && a.checked == checked && a.applied == applied);
+}
+
+/* ---- the images ---- */
+
+static uint64_t groups_of(uint64_t first, uint64_t other, uint64_t last, size_t groups) {
+    return block_of(11, first, other, last, groups, groups, ALL_BITS);
+}
+
+static void groups_in_groups(void) {
+    begin("bit groups in bit groups, 13 levels, each block twice to the next, 64 groups to the long text");
+    uint64_t at = groups_of(long_text, long_text, long_text, 64);
+    for (int level = 1; level < 13; level++) at = groups_of(at, long_text, at, 66);
+    expect_room(of_number(at, 1), 8191, 8191);
+}
+
+static void deep_groups(void) {
+    begin("bit groups, 21 levels, 3,000 groups each, all but the last to the long text");
+    uint64_t at = groups_of(long_text, long_text, long_text, 3000);
+    for (int level = 1; level < 21; level++) at = groups_of(long_text, long_text, at, 3000);
+    expect_room(of_number(at, 1), 21, 21);
+}
+
+static void direct_texts(void) {
+    begin("bit groups, 65,535 groups to the long text");
+    expect_room(of_number(groups_of(long_text, long_text, long_text, 65535), 1), 1, 1);
+}
+
+static void chosen_texts(void) {
+    begin("bit groups, 65,535 groups to a type 7 that chooses the long text");
+    uint64_t nested = small_block(7, 0, long_text);
+    expect_room(of_number(groups_of(nested, nested, nested, 65535), 1), 65536, 65536);
+}
+
+/* So many blocks of a type in a row, with the long name and perhaps a reference. They are 64 bytes and 8 a reference long. */
+static uint64_t named_blocks(uint8_t kind, uint64_t ref, size_t blocks) {
+    uint64_t first = built_len;
+    for (size_t i = 0; i < blocks; i++) small_block(kind, long_text, ref);
+    return first;
+}
+
+/* Bit groups over so many blocks in a row, and one group more. */
+static uint64_t groups_over(uint64_t first, uint64_t step, size_t blocks, uint64_t last) {
+    uint64_t address = open_block(0, blocks + 1, blocks + 1);
+    for (size_t i = 0; i < blocks; i++) put(first + step * i, 8);
+    put(last, 8);
+    put_kind(11, blocks + 1, blocks + 1);
+    for (size_t i = 0; i <= blocks; i++) put(ALL_BITS, 8);
+    return address;
+}
+
+static void long_names(void) {
+    begin("bit groups, 60,000 blocks of type 7 with the long name");
+    uint64_t first = named_blocks(7, short_text, 60000);
+    expect_room(of_number(groups_over(first, 72, 60000, 0), 1), 60001, 60001);
+    begin("bit groups, 60,000 blocks of type 1 with the long name, and a short text");
+    first = named_blocks(1, 0, 60000);
+    expect_x(of_number(groups_over(first, 64, 60000, short_text), 1), 60001, 60001);
+}
+
+static void text_to_value(void) {
+    begin("type 9, 1,000,000 references to the long text");
+    mdf_applied a = of_x(block_of(9, long_text, long_text, long_text, 1000000, 0, 0));
+    expect(a.refusal == 0 && a.kind == MDF_KIND_UNKNOWN && a.checked == 1 && a.applied == 1 && untouched(0));
+    begin("type 9, 65,535 references, the last to the short text");
+    uint64_t seven = 0x401c000000000000; /* 7.0 */
+    a = of_x(block_of(9, long_text, long_text, short_text, 65535, 65535, seven));
+    expect(a.refusal == 0 && a.kind == MDF_KIND_NUMBER && a.number == 7.0 && a.checked == 1 && a.applied == 1 && untouched(0));
+}
+
+static void text_to_text(void) {
+    begin("type 10, 1,000,001 references to the long text");
+    uint64_t at = block_of(10, long_text, long_text, long_text, 1000001, 0, 0);
+    expect_room(of_x(at), 1, 1);
+    begin("type 10, the same, shown");
+    at = block_of(10, long_text, long_text, long_text, 1000001, 0, 0);
+    mdf_shown s = mdf_translate(built, built_len, at, LIMIT, (const uint8_t *)"x", 1);
+    expect(s.from_image == 1 && s.start == long_text + 24 && s.length == LONG);
+    begin("type 10, 1,000,001 references, the last to the short text");
+    expect_x(of_x(block_of(10, long_text, long_text, short_text, 1000001, 0, 0)), 1, 1);
+}
+
+static void number_to_text(void) {
+    begin("type 7, 65,535 keys, all references to the long text");
+    expect_room(of_number(block_of(7, long_text, long_text, long_text, 65536, 65535, 0), 1), 1, 1);
+    begin("type 8, 32,767 ranges, all references to the long text");
+    expect_room(of_number(block_of(8, long_text, long_text, long_text, 32768, 65534, 0), 1), 1, 1);
+}
+
+/* 21 blocks of type 0 in a row, each but the last with so many references to the next. Answers the root's address. */
+static uint64_t row_of(size_t refs) {
+    uint64_t at = small_block(0, 0, 0);
+    for (int level = 1; level < 21; level++) at = block_of(0, at, at, at, refs, 0, 0);
+    return at;
+}
+
+/* The visits of the tree at a block of such a row that has so many levels below it; no more than every limit and one. */
+static uint64_t visits_of(uint64_t refs, int below) {
+    uint64_t most = (uint64_t)UINT32_MAX + 1, visits = below == 0 ? 1 : 1 + refs * visits_of(refs, below - 1);
+    return visits < most ? visits : most;
+}
+
+/* The block of row_of(refs) that is visited after `before` visits: the address that the limit `before` refuses. */
+static uint64_t visited_after(uint64_t before, uint64_t root, size_t refs) {
+    int below = 20;
+    while (before > 0) {
+        before = (before - 1) % visits_of(refs, --below);
+        root -= below == 0 ? 64 : 64 + 8 * refs;
+    }
+    return root;
+}
+
+static void expect_refused(mdf_checked c, uint32_t refusal, uint64_t address) {
+    expect(c.refusal == refusal && c.visits == 0 && c.address == address);
+}
+
+static void expect_accepted(mdf_checked c, uint64_t visits) { expect(c.refusal == 0 && c.visits == visits && c.address == 0); }
+
+static void linked_again(void) {
+    begin("the check of 21 levels, each block twice to the next");
+    uint64_t at = row_of(2), visits = visits_of(2, 20);
+    expect_accepted(mdf_check(built, built_len, at, UINT32_MAX), visits);
+    expect_accepted(mdf_check(built, built_len, at, (uint32_t)visits), visits);
+    expect_refused(mdf_check(built, built_len, at, (uint32_t)visits - 1), MDF_REFUSED_LIMIT, visited_after(visits - 1, at, 2));
+    expect_refused(mdf_check(built, built_len, at, 1234567), MDF_REFUSED_LIMIT, visited_after(1234567, at, 2));
+    begin("the check of 21 levels, each block three times to the next");
+    at = row_of(3);
+    expect_refused(mdf_check(built, built_len, at, UINT32_MAX), MDF_REFUSED_LIMIT, visited_after(UINT32_MAX, at, 3));
+    begin("the check of 21 levels, each block 5,000 times to the next");
+    at = row_of(5000);
+    expect_refused(mdf_check(built, built_len, at, UINT32_MAX), MDF_REFUSED_LIMIT, visited_after(UINT32_MAX, at, 5000));
+}
+
+int main(void) {
+    signal(SIGALRM, stopped);
+    built = malloc(CAPACITY);
+    if (built == NULL) return 2;
+    memset(built, 0, 64);
+    built_len = 64;
+    short_text = text_of('x', 1);
+    long_text = text_of('x', LONG);
+    behind_texts = built_len;
+    groups_in_groups();
+    deep_groups();
+    direct_texts();
+    chosen_texts();
+    long_names();
+    text_to_value();
+    text_to_text();
+    number_to_text();
+    linked_again();
+    alarm(0);
+    free(built);
+    printf("hostile images: %d passed, %d failed\n", passed, failed);
+    return failed != 0;
+}

@@ -1,0 +1,111 @@
+/* How many bytes of stack a call takes below its caller. Each call runs on a stack of its own that was painted before; what is no longer painted
+ * was used. The deepest trees that the check accepts are asked: 21 levels of each type that hands a value on, over each type. */
+#define _XOPEN_SOURCE 700
+#include "mdf_conversion.h"
+
+#include "build.h"
+
+#include <stdio.h>
+#include <ucontext.h>
+
+#define LEVELS 21
+#define ALL_BITS UINT64_MAX
+#define LIMIT 100
+
+static uint8_t image[1 << 16], out[1 << 12], area[1 << 18];
+static uint64_t root;
+static ucontext_t here, aside;
+
+/* An application that does nothing and takes no more than its return address. It hands back where its answer would stand, as the caller expects. */
+__asm__(".text\n.globl apply_no_block\napply_no_block:\n\tmovq %rdi, %rax\n\tret\n");
+mdf_applied apply_no_block(const uint8_t *image, size_t image_len, uint64_t address, uint32_t limit, uint64_t value, uint8_t *out, size_t out_len);
+
+/* What is measured. */
+static volatile mdf_applied answer;
+static volatile mdf_checked checked;
+static volatile mdf_shown shown;
+static volatile uint32_t refusal;
+
+static void nothing(void) { answer = apply_no_block(image, built_len, root, LIMIT, 1, out, sizeof out); }
+static void apply(void) { answer = mdf_apply_unsigned(image, built_len, root, LIMIT, 1, out, sizeof out); }
+static void check(void) { checked = mdf_check(image, built_len, root, LIMIT); }
+static void translate(void) { shown = mdf_translate(image, built_len, root, LIMIT, image, 8); }
+
+static void parse_and_write(void) {
+    mdf_parsed p = mdf_parse(image, built_len, root);
+    uint64_t words[2] = {1, 2};
+    refusal = p.refusal | mdf_write(p.block, words, 2, words, 2, out, sizeof out).refusal;
+}
+
+static void (*job)(void);
+static void run(void) { job(); }
+
+/* The bytes of the painted stack that a job uses. */
+static size_t used(void (*f)(void), int paint) {
+    memset(area, paint, sizeof area);
+    getcontext(&aside);
+    aside.uc_stack.ss_sp = area;
+    aside.uc_stack.ss_size = sizeof area;
+    aside.uc_link = &here;
+    job = f;
+    makecontext(&aside, run, 0);
+    swapcontext(&here, &aside);
+    size_t clean = 0;
+    while (clean < sizeof area && area[clean] == paint) clean++;
+    return sizeof area - clean;
+}
+
+/* The bytes below the caller's frame, the return address with them: exact for an application, and a few more or less for the others, whose caller's
+ * frame is another. The first run binds what the archive calls. */
+static size_t below_caller(void (*f)(void)) {
+    used(f, 0x5a);
+    size_t a = used(f, 0xa5), b = used(f, 0x5a), before = used(nothing, 0xa5) - 8;
+    return (a > b ? a : b) - before;
+}
+
+/* The block at the bottom: of a type, with a text that its references lead to. */
+static uint64_t bottom(uint8_t kind, uint64_t text) { return block_of(kind, text, text, text, 6, 6, ALL_BITS); }
+
+/* The next block up: it hands the value on to `below`, by its one reference. */
+static uint64_t above(uint8_t kind, uint64_t name, uint64_t below) {
+    uint64_t address = open_block(name, 1, kind == 11);
+    put(below, 8);
+    put_kind(kind, 1, kind == 11);
+    if (kind == 11) put(ALL_BITS, 8);
+    return address;
+}
+
+/* 21 levels of a type over one of another. */
+static void build(uint8_t kind, uint8_t last) {
+    built = image;
+    memset(image, 0, sizeof image);
+    built_len = 64;
+    uint64_t name = text_of('n', 8), text = text_of('x', 8);
+    root = bottom(last, text);
+    for (int level = 1; level < LEVELS; level++) root = above(kind, name, root);
+}
+
+/* The most that 21 levels of a type take, over any type. */
+static size_t most_of(uint8_t kind, void (*f)(void)) {
+    size_t most = 0;
+    for (uint8_t last = 0; last <= 12; last++) {
+        build(kind, last);
+        size_t bytes = below_caller(f);
+        if (bytes > most) most = bytes;
+    }
+    return most;
+}
+
+int main(void) {
+    size_t walked = most_of(11, check), by_key = most_of(7, apply), by_range = most_of(8, apply), by_bits = most_of(11, apply);
+    size_t by_text = most_of(10, translate), one_block = most_of(11, parse_and_write);
+    build(11, 11);
+    apply();
+    if (answer.kind != MDF_KIND_TEXT || answer.checked != LEVELS || answer.applied != LEVELS || refusal != 0) {
+        printf("stack: the deepest bit groups gave no text, or a block was not written\n");
+        return 1;
+    }
+    printf("stack below the caller at 21 levels, bytes: check %zu, type 7 %zu, type 8 %zu, bit groups %zu, type 10 shown %zu; one block %zu\n",
+           walked, by_key, by_range, by_bits, by_text, one_block);
+    return 0;
+}
