@@ -11,12 +11,14 @@ export MF4_SOURCE CARGO_REGISTRY
 
 .PHONY: test demo face compare sharp record bench kit
 
-# The comparison runs where its source and packages are at hand, and is otherwise named in one line. The gate comes last; it removes target/, and
-# the archive of the faces with it.
-test: kit face
-	@compare/run --if-possible run $(N) $(SEED)
+# The gate comes first and proves everything from nothing. The faces and the comparison then link what it has just proved, so that nothing is proved
+# twice; the comparison runs where its source and packages are at hand, and is otherwise named in one line. The gate's verdict is said again at the end.
+test: kit
 	@rt fmt --check
-	@rt ci
+	@said="$$(mktemp)"; { rt ci 2>&1; echo "$$?" > "$$said.status"; } | tee "$$said"; \
+	verdict="$$(tail -n 1 "$$said")"; status="$$(cat "$$said.status")"; rm -f "$$said" "$$said.status"; \
+	[ "$$status" = 0 ] || exit 1; \
+	$(MAKE) --no-print-directory face && compare/run --if-possible run $(N) $(SEED) && echo "$$verdict"
 
 # The program is proved before it is run; what the prover says is kept in target/demo.log.
 demo: kit

@@ -6,5 +6,6 @@ pub mod Demand
 pub mod Showing
 pub mod Shows
 pub mod Settling
+pub mod SameText
 pub mod PCases
 pub mod Refusals
