@@ -6,7 +6,7 @@ use Prim.Native.Nat.{ℕ, _+_, _≤_}
 use native.Mathlib.Omega.{arith}
 use lib.ListN.{length}
 use Rattle.common.specs.Header.{headerAt}
-use Rattle.blocks.specs.Block.{fixedAt, fieldsAt, fieldsPlace, valCount, hasRange, isRanged, rangeSize, rangeAt, valuesPlace, blockEnd, joined, blockAt}
+use Rattle.blocks.specs.Block.{fixedAt, fieldsAt, fieldsPlace, valCount, hasRange, isRanged, rangeSize, rangeAt, valuesPlace, blockEnd, recordFrom, blockAt}
 use Rattle.common.specs.declared.header.Header.{Header}
 use Rattle.blocks.specs.declared.Fixed.{Fixed}
 use Rattle.blocks.specs.declared.Fields.{Fields}
@@ -26,6 +26,6 @@ module _ (img : List ℕ) (at : ℕ) (head : Header) (place : ℕ) (fields : Fie
 
   pub joined-is : (fixed : Fixed) (range : Range) (refs values : ℕ) → fixed ≡ fixedAt img (at + 24)
       → range ≡ rangeAt img (place + 8) ranged → refs ≡ at + 56 → values ≡ valuesPlace img at
-      → joined (head .length) (head .links) fixed fields range refs values ≡ blockAt img at
+      → recordFrom (head .length) (head .links) fixed fields range refs values ≡ blockAt img at
   unfolding headerAt fieldsAt valCount isRanged blockAt
   joined-is fixed range refs values x g s v = rw (v, s, g, x, r, f, p, h)

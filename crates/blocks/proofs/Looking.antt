@@ -7,6 +7,7 @@ use native.Mathlib.Omega.{arith}
 use borrow.Author.Tests.{leb-true}
 use lib.Dec.{leb}
 use lib.ListN as ListN
+use Rattle.words.proofs.Clash.{clash}
 use Rattle.words.specs.Words.{word16, word64}
 use Rattle.blocks.specs.Block.{refCount, fieldsPlace, fieldsAt, valCount, hasRange, isRanged, rangeSize, valuesPlace, blockEnd, blockAt, opened}
 use Rattle.blocks.specs.View.{viewOf, seenOf, seen}
@@ -82,7 +83,7 @@ seen-open img a v e = go (leb (blockEnd img a) (ListN.length img)) refl e
           fits = leb-true _ _ t;
           same = (cc);
         }
-    go false t p = let z : _≡_ {A = ℕ} 0 1 = cc in absurd (omega arith)
+    go false t p = clash cc
 
 pub seen-cut : (img : List ℕ) (a : ℕ) → seen img a ≡ Cut → opened img a ≡ Refused (Short a)
 unfolding seen opened
@@ -90,7 +91,7 @@ seen-cut img a e = go (leb (blockEnd img a) (ListN.length img)) e
   where
     go : (b : Bool) → seenOf (cond b (Whole (blockAt img a)) (Refused (Short a))) ≡ Cut
         → cond b (Whole (blockAt img a)) (Refused (Short a)) ≡ Refused (Short a)
-    go true p = let z : _≡_ {A = ℕ} 0 1 = cc in absurd (omega arith)
+    go true p = clash cc
     go false p = refl
 
 module _ (img : List ℕ) (a : ℕ) (v : View) (e : seen img a ≡ Open v) where

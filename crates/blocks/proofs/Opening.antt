@@ -7,6 +7,7 @@ use native.Mathlib.Omega.{arith}
 use borrow.Author.Tests.{leb-true, le-leb, lt-leb}
 use lib.Dec.{leb}
 use lib.ListN.{length}
+use Rattle.words.proofs.Clash.{clash}
 use Rattle.common.specs.Header.{inside, isConversion}
 use Rattle.common.proofs.Headers.{inside-fits}
 use Rattle.blocks.specs.Block.{blockEnd, blockAt, opened, parsed}
@@ -46,9 +47,9 @@ pub record IsWhole (img : List ℕ) (a : ℕ) (b : Block) : Type 0 where
 tests : (x y z : Bool) (b c : Block) (p q r : Refusal)
     → cond x (cond y (cond z (Whole c) (Refused p)) (Refused q)) (Refused r) ≡ Whole b → (x ≡ true) × (y ≡ true) × (z ≡ true) × (b ≡ c)
 tests true true true b c p q r e = (refl, refl, refl, (cc))
-tests true true false b c p q r e = let z : _≡_ {A = ℕ} 0 1 = cc in absurd (omega arith)
-tests true false z b c p q r e = let z : _≡_ {A = ℕ} 0 1 = cc in absurd (omega arith)
-tests false y z b c p q r e = let z : _≡_ {A = ℕ} 0 1 = cc in absurd (omega arith)
+tests true true false b c p q r e = clash cc
+tests true false z b c p q r e = clash cc
+tests false y z b c p q r e = clash cc
 
 pub parsed-whole : (img : List ℕ) (a : ℕ) (b : Block) → parsed img a ≡ Whole b → IsWhole img a b
 unfolding parsed opened

@@ -72,8 +72,8 @@ unfoldable pub blockEnd : List ℕ → ℕ → ℕ
 blockEnd img a = valuesPlace img a + 8 * valCount img a
 
 -- the record of these parts
-abbrev pub joined : ℕ → ℕ → Fixed → Fields → Range → ℕ → ℕ → Block
-joined length links fixed fields range refs values =
+abbrev pub recordFrom : ℕ → ℕ → Fixed → Fields → Range → ℕ → ℕ → Block
+recordFrom length links fixed fields range refs values =
     record {
       length = length;
       links = links;
@@ -97,7 +97,7 @@ joined length links fixed fields range refs values =
 
 unfoldable pub blockAt : List ℕ → ℕ → Block
 blockAt img a =
-    joined
+    recordFrom
     (word64 img (a + 8))
     (word64 img (a + 16))
     (fixedAt img (a + 24))

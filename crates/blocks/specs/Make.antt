@@ -2,7 +2,7 @@
 use Prim.Native.Nat.{ℕ}
 use mathlib.Core.Bool.{true}
 use lib.Ieee.{Float, binary64, toBits}
-use Rattle.blocks.specs.Block.{noRange, joined}
+use Rattle.blocks.specs.Block.{noRange, recordFrom}
 use Rattle.blocks.specs.declared.Fixed.{Fixed}
 use Rattle.blocks.specs.declared.Fields.{Fields}
 use Rattle.blocks.specs.declared.Range.{Range}
@@ -23,7 +23,7 @@ rangeOf b =
 -- a block of a type with four NIL links, no reference, no value and no range is 64 bytes long
 abbrev pub emptyOf : ℕ → Block
 emptyOf kind =
-    joined 64 4
+    recordFrom 64 4
     (record { name = 0; unit = 0; comment = 0; inverse = 0 })
     (record { kind = kind; precision = 0; flags = 0; refcount = 0; valcount = 0 })
     noRange
@@ -33,7 +33,7 @@ emptyOf kind =
 -- the same block but for the fixed links
 abbrev pub withLinks : Block → ℕ → ℕ → ℕ → ℕ → Block
 withLinks b name unit comment inverse =
-    joined
+    recordFrom
     (b .length)
     (b .links)
     (record { name = name; unit = unit; comment = comment; inverse = inverse })
@@ -45,7 +45,7 @@ withLinks b name unit comment inverse =
 -- the same block but for precision, flags and the reference count field
 abbrev pub withDetails : Block → ℕ → ℕ → ℕ → Block
 withDetails b precision flags refcount =
-    joined
+    recordFrom
     (b .length)
     (b .links)
     (fixedOf b)
@@ -57,7 +57,7 @@ withDetails b precision flags refcount =
 -- the same block but for its range
 abbrev pub withRange : Block → Float → Float → Block
 withRange b minimum maximum =
-    joined
+    recordFrom
     (b .length)
     (b .links)
     (fixedOf b)

@@ -25,12 +25,12 @@ unfoldable pub valueWordOf : List ℕ → Block → ℕ → Word
 valueWordOf img b i = wordIn img (b .firstval) (b .valcount) i
 
 -- the f64 of a word
-abbrev pub numbered : Word → Number
-numbered (Bits w) = Value (ofBits binary64 w)
-numbered NoWord = NoValue
+abbrev pub asValue : Word → Number
+asValue (Bits w) = Value (ofBits binary64 w)
+asValue NoWord = NoValue
 
 unfoldable pub valueOf : List ℕ → Block → ℕ → Number
-valueOf img b i = numbered (valueWordOf img b i)
+valueOf img b i = asValue (valueWordOf img b i)
 
 -- all of a block's references, in order
 unfoldable pub references : List ℕ → Block → List ℕ

@@ -2,7 +2,7 @@
 use Prim.Native.Nat.{ℕ, _-_}
 use mathlib.Core.List.{List}
 use Rattle.blocks.specs.Block.{opened}
-use Rattle.blocks.specs.Place.{wordIn, numbered}
+use Rattle.blocks.specs.Place.{wordIn, asValue}
 use Rattle.blocks.specs.declared.Block.{Block}
 use Rattle.blocks.specs.declared.Number.{Number}
 use Rattle.blocks.specs.declared.Parsed.{Parsed}
@@ -37,4 +37,4 @@ unfoldable pub valueWordIn : List ℕ → View → ℕ → Word
 valueWordIn img v i = wordIn img (v .firstval) (v .valcount) i
 
 unfoldable pub valueIn : List ℕ → View → ℕ → Number
-valueIn img v i = numbered (valueWordIn img v i)
+valueIn img v i = asValue (valueWordIn img v i)

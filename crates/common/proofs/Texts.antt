@@ -9,15 +9,15 @@ use borrow.Author.Tests.{le-leb, lt-leb, leb-true, ne-eqb}
 use lib.Dec.{leb, eqb}
 use lib.ListN.{length, getD, take, drop, length-take}
 use lib.Seq.{drop-cons, take-take}
-use Rattle.words.specs.Words.{word64}
-use Rattle.common.specs.Header.{inside, isText}
-use Rattle.common.specs.Text.{untilZero, isWholeText, runAt, runOf, textBytes, cutOff, textOf, shown, Within}
+use Rattle.words.specs.Words.{word64, part}
+use Rattle.common.specs.Header.{inside, isTextBlock}
+use Rattle.common.specs.Text.{untilZero, isWholeText, runAt, runOf, textBytes, cutOff, textOf, shown, TextIn}
 use Rattle.common.specs.declared.text.Text.{Text}
 use Rattle.common.specs.declared.text.Text.the-variants.{Part, NoText}
 
 -- ---- the bytes from i up to `to` begin with the byte at i
 pub first-byte : (img : List ℕ) (i to : ℕ) → i < to → to ≤ length img
-    → take (to - i) (drop i img) ≡ getD img i 0 ∷ take (to - (i + 1)) (drop (i + 1) img)
+    → part img i to ≡ getD img i 0 ∷ part img (i + 1) to
 first-byte img i to h k =
     let n : to - i ≡ suc (to - (i + 1)) = omega arith in
     let inner : i < length img = omega arith in
@@ -41,19 +41,19 @@ bytes-none img i to h = let e : to - i ≡ 0 = omega arith in rw e
 
 -- ---- the answer after each test
 module _ (img : List ℕ) (a : ℕ) where
-  pub run-other : isText img a ≡ false → runAt img a ≡ NoText
+  pub run-other : isTextBlock img a ≡ false → runAt img a ≡ NoText
   unfolding runAt isWholeText
   run-other t = rw t
 
-  pub run-under : isText img a ≡ true → word64 img (a + 8) < 24 → runAt img a ≡ NoText
+  pub run-under : isTextBlock img a ≡ true → word64 img (a + 8) < 24 → runAt img a ≡ NoText
   unfolding runAt isWholeText
   run-under t h = simp (t, lt-leb _ _ h)
 
-  pub run-cut : isText img a ≡ true → 24 ≤ word64 img (a + 8) → length img < a + word64 img (a + 8) → runAt img a ≡ NoText
+  pub run-cut : isTextBlock img a ≡ true → 24 ≤ word64 img (a + 8) → length img < a + word64 img (a + 8) → runAt img a ≡ NoText
   unfolding runAt isWholeText
   run-cut t h k = simp (t, le-leb _ _ h, lt-leb _ _ k)
 
-  pub run-whole : isText img a ≡ true → 24 ≤ word64 img (a + 8) → a + word64 img (a + 8) ≤ length img
+  pub run-whole : isTextBlock img a ≡ true → 24 ≤ word64 img (a + 8) → a + word64 img (a + 8) ≤ length img
       → runAt img a ≡ Part (a + 24) (a + word64 img (a + 8))
   unfolding runAt isWholeText
   run-whole t h k = simp (t, le-leb _ _ h, le-leb _ _ k)
@@ -94,40 +94,40 @@ until-zero-front (b ∷ bs) = go (eqb b 0) (until-zero-front bs)
 pub bytes-short : (img : List ℕ) (from to : ℕ) → length (textBytes img from to) ≤ to - from
 unfolding textBytes
 bytes-short img from to =
-    omega (arith, until-zero-short (take (to - from) (drop from img)), length-take (to - from) (drop from img))
+    omega (arith, until-zero-short (part img from to), length-take (to - from) (drop from img))
 
 -- the part that is cut off where the text ends shows the text
 pub text-shown : (img : List ℕ) (from to : ℕ) → shown img (Part from (from + length (textBytes img from to))) ≡ textBytes img from to
 unfolding textBytes
 text-shown img from to =
-    let bs = take (to - from) (drop from img) in
+    let bs = part img from to in
     let n : (from + length (untilZero bs)) - from ≡ length (untilZero bs) = omega arith in
     let few : length (untilZero bs) ≤ to - from = omega (arith, until-zero-short bs, length-take (to - from) (drop from img)) in
     ap (λ (k : ℕ). take k (drop from img)) n ∙ sym (take-take (length (untilZero bs)) (to - from) (drop from img) few) ∙ until-zero-front bs
 
-pub run-at-within : (img : List ℕ) (a : ℕ) → Within img (runAt img a)
+pub run-at-within : (img : List ℕ) (a : ℕ) → TextIn img (runAt img a)
 unfolding runAt isWholeText
-run-at-within img a = go (isText img a) (leb 24 (word64 img (a + 8))) (leb (a + word64 img (a + 8)) (length img)) refl refl
+run-at-within img a = go (isTextBlock img a) (leb 24 (word64 img (a + 8))) (leb (a + word64 img (a + 8)) (length img)) refl refl
   where
     go : (t u v : Bool) → leb 24 (word64 img (a + 8)) ≡ u → leb (a + word64 img (a + 8)) (length img) ≡ v
-        → Within img (cond (t && u && v) (Part (a + 24) (a + word64 img (a + 8))) NoText)
+        → TextIn img (cond (t && u && v) (Part (a + 24) (a + word64 img (a + 8))) NoText)
     go true true true p q = let h = leb-true 24 (word64 img (a + 8)) p in (omega arith, leb-true _ _ q)
     go true true false p q = tt
     go true false v p q = tt
     go false u v p q = tt
 
-pub run-within : (img : List ℕ) (link : ℕ) → Within img (runOf img link)
+pub run-within : (img : List ℕ) (link : ℕ) → TextIn img (runOf img link)
 unfolding runOf
 run-within img link = go (not (eqb link 0) && inside img link) (run-at-within img link)
   where
-    go : (b : Bool) → Within img (runAt img link) → Within img (cond b (runAt img link) NoText)
+    go : (b : Bool) → TextIn img (runAt img link) → TextIn img (cond b (runAt img link) NoText)
     go true h = h
     go false h = tt
 
-pub text-within : (img : List ℕ) (link : ℕ) → Within img (textOf img link)
+pub text-within : (img : List ℕ) (link : ℕ) → TextIn img (textOf img link)
 unfolding textOf
 text-within img link = go (runOf img link) (run-within img link)
   where
-    go : (t : Text) → Within img t → Within img (cutOff img t)
+    go : (t : Text) → TextIn img t → TextIn img (cutOff img t)
     go (Part from to) h = (omega arith, omega (arith, h .0, h .1, bytes-short img from to))
     go NoText h = tt

@@ -26,5 +26,5 @@ textId = 0x58542323
 unfoldable pub isConversion : List ℕ → ℕ → Bool
 isConversion img a = eqb (word32 img a) conversionId
 
-unfoldable pub isText : List ℕ → ℕ → Bool
-isText img a = eqb (word32 img a) textId
+unfoldable pub isTextBlock : List ℕ → ℕ → Bool
+isTextBlock img a = eqb (word32 img a) textId

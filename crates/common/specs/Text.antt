@@ -1,11 +1,11 @@
 -- The text of a text block (document 01, "A text block (S)"). Assumes nothing: these are definitions.
-use Prim.Native.Nat.{ℕ, _+_, _-_, _≤_}
+use Prim.Native.Nat.{ℕ, _+_}
 use mathlib.Core.Bool.{Bool, not, _&&_, cond}
 use mathlib.Core.List.{List, [], _∷_}
 use lib.Dec.{leb, eqb}
-use lib.ListN.{length, take, drop}
-use Rattle.words.specs.Words.{word64}
-use Rattle.common.specs.Header.{inside, isText}
+use lib.ListN.{length}
+use Rattle.words.specs.Words.{word64, part, PartIn}
+use Rattle.common.specs.Header.{inside, isTextBlock}
 use Rattle.common.specs.declared.text.Text.{Text}
 use Rattle.common.specs.declared.text.Text.the-variants.{Part, NoText}
 
@@ -16,7 +16,7 @@ untilZero (b ∷ bs) = cond (eqb b 0) [] (b ∷ untilZero bs)
 
 -- the block at a, whose header lies in the image, is a text block; its length is not under 24 and does not pass the image end
 unfoldable pub isWholeText : List ℕ → ℕ → Bool
-isWholeText img a = isText img a && leb 24 (word64 img (a + 8)) && leb (a + word64 img (a + 8)) (length img)
+isWholeText img a = isTextBlock img a && leb 24 (word64 img (a + 8)) && leb (a + word64 img (a + 8)) (length img)
 
 -- where its text may run: from byte 24 to the block length
 unfoldable pub runAt : List ℕ → ℕ → Text
@@ -28,7 +28,7 @@ runOf img link = cond (not (eqb link 0) && inside img link) (runAt img link) NoT
 
 -- the text of a run: to the first zero byte, or to the run's end
 unfoldable pub textBytes : List ℕ → ℕ → ℕ → List ℕ
-textBytes img from to = untilZero (take (to - from) (drop from img))
+textBytes img from to = untilZero (part img from to)
 
 -- a run, cut off where its text ends
 abbrev pub cutOff : List ℕ → Text → Text
@@ -41,10 +41,10 @@ textOf img link = cutOff img (runOf img link)
 
 -- the bytes of the image that an answer shows
 abbrev pub shown : List ℕ → Text → List ℕ
-shown img (Part from to) = take (to - from) (drop from img)
+shown img (Part from to) = part img from to
 shown img NoText = []
 
 -- an answer's part lies in the image
-abbrev pub Within : List ℕ → Text → Type 0
-Within img (Part from to) = (from ≤ to) × (to ≤ length img)
-Within img NoText = Unit {0}
+abbrev pub TextIn : List ℕ → Text → Type 0
+TextIn img (Part from to) = PartIn img from to
+TextIn img NoText = Unit {0}

@@ -6,6 +6,7 @@ use crate::header::Header;
 ghost use mathlib.Core.Path.{_≡_};
 ghost use Prim.Native.Nat.{_+_, _≤_};
 ghost use lib.ListN.{length};
+ghost use Rattle.words.specs.Words.{PartIn};
 ghost use Rattle.common.specs.Text.{runAt, runOf, textBytes, textOf};
 
 // Where a text stands in the image: from the first place up to the second, which is not its own any more.
@@ -50,7 +51,7 @@ pub fn run_of(image: &[u8], link: u64) -> Text
 
 // The end of the text that runs from `from` on: its first zero byte, or `to`.
 pub fn text_end(image: &[u8], from: usize, to: usize) -> usize
-    requires { ⌜ (from ≤ to) × (to ≤ length (now image)) ⌝ }
+    requires { ⌜ PartIn (now image) from to ⌝ }
     ensures { λ r. ⌜ r ≡ from + length (textBytes (now (image .entry)) from to) ⌝ }
 {
     let mut i = from;

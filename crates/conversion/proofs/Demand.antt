@@ -7,6 +7,7 @@ use Prim.Native.Nat.{ℕ, _≤_}
 use native.Mathlib.Omega.{arith}
 use lib.Dec.{leb}
 use lib.ListN.{length, drop}
+use Rattle.words.proofs.Clash.{clash}
 use Rattle.common.specs.Refusal.{numberOf}
 use Rattle.common.specs.declared.refusal.Refusal.{Refusal}
 use Rattle.common.specs.declared.refusal.Refusal.the-variants.{Room, Formula}
@@ -50,14 +51,14 @@ after-check mode img a l n v t out e = ap (λ (c : Checked). byCheck c (λ m. se
 seven-eight : (room a : ℕ) (x : says.Answer) (r : Refusal) → (x ≡ says.broken → ⊥) → answerIn room a x ≡ Refused r
     → (numberOf r ≡ 7) ⊎ (numberOf r ≡ 8)
 unfolding answerIn
-seven-eight room a (says.number x) r h p = let z : _≡_ {A = ℕ} 0 1 = cc in absurd (omega arith)
+seven-eight room a (says.number x) r h p = clash cc
 seven-eight room a (says.text t) r h p = go (leb (length t) room) p
   where
     go : (b : Bool) → cond b (Text (length t)) (Refused Room) ≡ Refused r → (numberOf r ≡ 7) ⊎ (numberOf r ≡ 8)
-    go true q = let z : _≡_ {A = ℕ} 0 1 = cc in absurd (omega arith)
+    go true q = clash cc
     go false q = let same : r ≡ Room = cc in inr (ap numberOf same)
-seven-eight room a says.unchanged r h p = let z : _≡_ {A = ℕ} 0 1 = cc in absurd (omega arith)
-seven-eight room a says.unknown r h p = let z : _≡_ {A = ℕ} 0 1 = cc in absurd (omega arith)
+seven-eight room a says.unchanged r h p = clash cc
+seven-eight room a says.unknown r h p = clash cc
 seven-eight room a says.formula r h p = let same : r ≡ Formula = cc in inl (ap numberOf same)
 seven-eight room a says.broken r h p = absurd (h refl)
 
@@ -81,7 +82,7 @@ kept room a out (says.number x) r same p = refl
 kept room a out (says.text t) r same p = rw (← same) (go (leb (length t) room) p)
   where
     go : (b : Bool) → cond b (Text (length t)) (Refused Room) ≡ Refused r → cond b (t ++ drop (length t) out) out ≡ out
-    go true q = let z : _≡_ {A = ℕ} 0 1 = cc in absurd (omega arith)
+    go true q = clash cc
     go false q = refl
 kept room a out says.unchanged r same p = refl
 kept room a out says.unknown r same p = refl

@@ -23,7 +23,7 @@ use Rattle.steps.specs.declared.choice.Choice.{Choice}
 use Rattle.steps.specs.declared.choice.Choice.the-variants as choice
 use Rattle.steps.specs.declared.step.Step.{Step}
 use Rattle.steps.specs.declared.step.Step.the-variants.{ByKey, ByRange, ByBits, Done}
-use Rattle.pieces.specs.Answer.{Answer, number, text, unchanged, unknown, formula, broken, answerOf, prefixed}
+use Rattle.pieces.specs.Answer.{Answer, number, text, unchanged, unknown, formula, broken, spelled, prefixed}
 use Rattle.pieces.specs.Label.{label}
 use Rattle.tree.specs.Tree.{leadsIn, sizes}
 use Rattle.engine.specs.Apply.{Ap, passedOn, maskAt, groupCount, partOf, Groups, going, halted, grown, more, groups, gathered, bitGroups, ruled}
@@ -39,7 +39,7 @@ Fine unknown = Unit {0}
 Fine formula = Unit {0}
 Fine broken = ⊥
 
-fine-plain : (img : List ℕ) (p : Plain) → Sane p → Fine (answerOf img p)
+fine-plain : (img : List ℕ) (p : Plain) → Sane p → Fine (spelled img p)
 fine-plain img (plain.Number x) h = tt
 fine-plain img (plain.Words from to) h = tt
 fine-plain img plain.Unchanged h = tt

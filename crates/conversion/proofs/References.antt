@@ -8,6 +8,7 @@ use native.Mathlib.Omega.{arith}
 use borrow.Author.Tests.{ltb-true}
 use lib.Dec.{eqb, ltb, leb}
 use lib.ListN.{length, getD, take}
+use Rattle.words.proofs.Clash.{clash}
 use Rattle.words.specs.Words.{word64, words}
 use Rattle.words.proofs.Slices.{length-words}
 use Rattle.common.specs.Header.{inside, isConversion}
@@ -39,8 +40,8 @@ word-bits img first count i w = go (ltb i count) (leb (first + 8 * i + 8) (lengt
     go : (x y : Bool) → ltb i count ≡ x → cond (x && y) (Bits (word64 img (first + 8 * i))) NoWord ≡ Bits w
         → (i < count) × (word64 img (first + 8 * i) ≡ w)
     go true true h p = (ltb-true i count h, (cc))
-    go true false h p = let z : _≡_ {A = ℕ} 0 1 = cc in absurd (omega arith)
-    go false y h p = let z : _≡_ {A = ℕ} 0 1 = cc in absurd (omega arith)
+    go true false h p = clash cc
+    go false y h p = clash cc
 
 nested-link : (img : List ℕ) (link a : ℕ) → leadOf img link ≡ Nested a → (link ≡ a) × (leadsIn img link ≡ true)
 unfolding leadOf nestedAt leadsIn
@@ -48,11 +49,11 @@ nested-link img link a = go (eqb link 0) (runOf img link) (inside img link) (isC
   where
     go : (z : Bool) (t : Text) (x y : Bool) → cond z Nil (byText t (cond x (cond y (Nested link) Elsewhere) Elsewhere)) ≡ Nested a
         → (link ≡ a) × (cond z false (cond x y false) ≡ true)
-    go true t x y p = let z : _≡_ {A = ℕ} 0 1 = cc in absurd (omega arith)
-    go false (Part from to) x y p = let z : _≡_ {A = ℕ} 0 1 = cc in absurd (omega arith)
+    go true t x y p = clash cc
+    go false (Part from to) x y p = clash cc
     go false NoText true true p = ((cc), refl)
-    go false NoText true false p = let z : _≡_ {A = ℕ} 0 1 = cc in absurd (omega arith)
-    go false NoText false y p = let z : _≡_ {A = ℕ} 0 1 = cc in absurd (omega arith)
+    go false NoText true false p = clash cc
+    go false NoText false y p = clash cc
 
 -- a lead to a nested block a comes of the i-th reference, which is a and leads to a block of the tree
 pub nested-lead : (img : List ℕ) (b : Block) (i a : ℕ) → leadAt img (viewOf b) i ≡ Nested a
@@ -66,7 +67,7 @@ nested-lead img b i a = go (referenceIn img (viewOf b) i) refl
         let n = nested-link img link a p in
         let w = word-bits img (b .firstref) (b .links - 4) i link e in
         (w .0, word-at img (b .firstref) (b .links - 4) i (w .0) ∙ w .1 ∙ n .0, subst (λ (r : ℕ). leadsIn img r ≡ true) (n .0) (n .1))
-    go NoWord e p = let z : _≡_ {A = ℕ} 0 1 = cc in absurd (omega arith)
+    go NoWord e p = clash cc
 
 pub reference-count : (img : List ℕ) (b : Block) → length (references img b) ≡ b .links - 4
 unfolding references

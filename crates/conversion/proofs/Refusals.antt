@@ -4,12 +4,12 @@ use mathlib.Core.List.{[], _∷_}
 use denote.Enum.Declared.{tagOf}
 use types.Run.{OneOf, miss}
 use Rattle.common.specs.declared.refusal.Word.the-variants.{NoWord}
-use Rattle.conversion.specs.Entry.{refusalOf, addressIn}
+use Rattle.conversion.specs.Entry.{refusalNumber, addressIn}
 use Rattle.conversion.specs.declared.logic.Answer.{Answer}
 use Rattle.conversion.specs.declared.logic.Answer.the-variants.{Number, Text, Unchanged, Unknown, Refused}
 use Rattle.conversion.proofs.logic.Answer as answers
 
-pub none-refused : (x : Answer) → OneOf (0 ∷ 1 ∷ 2 ∷ 3 ∷ []) (tagOf answers.the-type x) → (0 ≡ refusalOf x) × (NoWord ≡ addressIn x)
+pub none-refused : (x : Answer) → OneOf (0 ∷ 1 ∷ 2 ∷ 3 ∷ []) (tagOf answers.the-type x) → (0 ≡ refusalNumber x) × (NoWord ≡ addressIn x)
 none-refused (Number y) h = (refl, refl)
 none-refused (Text n) h = (refl, refl)
 none-refused Unchanged h = (refl, refl)

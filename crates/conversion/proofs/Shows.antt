@@ -22,7 +22,7 @@ use Rattle.tree.specs.Walk.{checked}
 use Rattle.tree.specs.declared.Checked.{Checked}
 use Rattle.tree.specs.declared.Checked.the-variants.{Accepted}
 use Rattle.tree.proofs.Acceptance.{acceptance}
-use Rattle.pieces.specs.Answer.{Answer, text, unchanged, answerOf}
+use Rattle.pieces.specs.Answer.{Answer, text, unchanged, spelled}
 use Rattle.engine.specs.Apply.{ruled, applied}
 use Rattle.conversion.specs.Shown.{ofLead, ofBlock, ofCheck, shownFor, showing}
 use Rattle.conversion.proofs.Showing.{shown-ten}
@@ -31,14 +31,14 @@ abbrev Agree : List ℕ → Answer → List ℕ → Type 0
 Agree question x shown =
     ((s : List ℕ) → x ≡ text s → shown ≡ s) × (x ≡ unchanged → shown ≡ question) × ((x ≡ text shown) ⊎ (x ≡ unchanged))
 
-agree : (img question : List ℕ) (l : Lead) → Agree question (answerOf img (orUnchanged l)) (showing img question (ofLead img l))
+agree : (img question : List ℕ) (l : Lead) → Agree question (spelled img (orUnchanged l)) (showing img question (ofLead img l))
 agree img question (Words from to) = ((λ s e. text-shown img from to ∙ cc), (λ e. cc), inl (ap text (sym (text-shown img from to))))
 agree img question (Nested a) = ((λ s e. cc), (λ e. refl), inr refl)
 agree img question Nil = ((λ s e. cc), (λ e. refl), inr refl)
 agree img question Elsewhere = ((λ s e. cc), (λ e. refl), inr refl)
 
 answers : (d : ℕ) (mode : Mode) (img question : List ℕ) (a : ℕ) → opened img a ≡ Whole (blockAt img a) → blockAt img a .kind ≡ 10
-    → applied (suc d) mode img question a Text .says ≡ answerOf img (orUnchanged (translated img (viewOf (blockAt img a)) question))
+    → applied (suc d) mode img question a Text .says ≡ spelled img (orUnchanged (translated img (viewOf (blockAt img a)) question))
 unfolding applied stepOf seen typeOf
 answers d mode img question a whole ten =
     ap (λ (p : Parsed). ruled (applied d mode img question) img Text (unlessCut mode img question Text (seenOf p)) .says) whole

@@ -33,8 +33,8 @@ use Rattle.rules.specs.declared.number.Taken.the-variants as took
 use Rattle.rules.specs.declared.search.Searched.{Searched}
 use Rattle.rules.specs.declared.search.Searched.the-variants.{Matched, Unmatched}
 use Rattle.steps.specs.Mode.{bitsOf}
-use Rattle.steps.specs.Plain.{numbered, isText, orUnknown, textToValue, orUnchanged, textToText}
-use Rattle.steps.specs.Choice.{ifConversion, lastReference, defaultOf, decided, followed, chosenKey, chosenRange}
+use Rattle.steps.specs.Plain.{byTaken, isTextValue, orUnknown, textToValue, orUnchanged, textToText}
+use Rattle.steps.specs.Choice.{ifConversion, lastReference, defaultOf, decided, byReference, chosenKey, chosenRange}
 use Rattle.steps.specs.Step.{groupedIn, typed, unlessCut, stepOf}
 use Rattle.steps.specs.declared.mode.Mode.{Mode}
 use Rattle.steps.specs.declared.mode.Edition.{Edition}
@@ -64,7 +64,7 @@ Follows b (ByRange c) = c ≡ viewOf b
 Follows b (ByBits c bits) = (c ≡ viewOf b) × (b .kind ≡ 11)
 Follows b (Done p) = Sane p
 
-sane-numbered : (k : ConversionType) (vs : List Float) (x : Taken) → Sane (numbered k vs x)
+sane-numbered : (k : ConversionType) (vs : List Float) (x : Taken) → Sane (byTaken k vs x)
 sane-numbered kind.Identity vs (took.Number x whole) = tt
 sane-numbered kind.Linear vs (took.Number x whole) = tt
 sane-numbered kind.Rational vs (took.Number x whole) = tt
@@ -114,8 +114,8 @@ module _ (mode : Mode) (img t : List ℕ) (b : Block) (v : Value) where
   by-type kind.RangeToValue h = sane-numbered kind.RangeToValue _ (taken v)
   by-type kind.ValueToText h = refl
   by-type kind.RangeToText h = refl
-  by-type kind.TextToValue h = sane-value img (viewOf b) t (isText v)
-  by-type kind.TextToText h = sane-text img (viewOf b) t (isText v)
+  by-type kind.TextToValue h = sane-value img (viewOf b) t (isTextValue v)
+  by-type kind.TextToText h = sane-text img (viewOf b) t (isTextValue v)
   by-type kind.BitGroups h = follows-bits (mode .edition) b (bitsOf mode v) h
   by-type (kind.Unknown n) h = sane-numbered (kind.Unknown n) _ (taken v)
 
@@ -156,7 +156,7 @@ module _ (img : List ℕ) (b : Block) where
   chosen-decided i lead.Nil e false c h = h
   chosen-decided i lead.Elsewhere e matched c h = h
 
-  chosen-followed : (s : Searched) (has : Bool) → Chosen (followed img (viewOf b) s has)
+  chosen-followed : (s : Searched) (has : Bool) → Chosen (byReference img (viewOf b) s has)
   chosen-followed (Matched i) has = chosen-decided i (leadAt img (viewOf b) i) refl true (defaultOf img (viewOf b) has) (chosen-default has)
   chosen-followed (Unmatched i) has = chosen-decided i (leadAt img (viewOf b) i) refl false (defaultOf img (viewOf b) has) (chosen-default has)
 

@@ -125,8 +125,8 @@ f60 = 0x404e000000000000
 abbrev linearOf : List ℕ → List ℕ
 linearOf values = block 0 1 [] values
 
-abbrev rational : List ℕ
-rational = block 0 2 [] (f0 ∷ f1 ∷ f0 ∷ f0 ∷ f0 ∷ f0 ∷ [])
+abbrev rationalImage : List ℕ
+rationalImage = block 0 2 [] (f0 ∷ f1 ∷ f0 ∷ f0 ∷ f0 ∷ f0 ∷ [])
 
 -- type 4, interpolated, or 5, nearest
 abbrev pairs : ℕ → List ℕ
@@ -149,8 +149,8 @@ ofLength size = blockOf size 0 1 [] (f0 ∷ f1 ∷ []) ++ replicate 16 0
 
 -- bit groups at 0 with the masks 3 and 12, on the block at 96 and the text "PTO" at 233; at 96 value to text, with 2 as "Low" at 205, named by
 -- "Gear" at 176
-abbrev groups : List ℕ
-groups =
+abbrev groupsImage : List ℕ
+groupsImage =
     block 0 11 (96 ∷ 233 ∷ []) (3 ∷ 12 ∷ [])
     ++ block 176 7 (205 ∷ []) (f2 ∷ [])
     ++ tx (71 ∷ 101 ∷ 97 ∷ 114 ∷ [])
@@ -166,8 +166,8 @@ abbrev unsigned : ℕ → Value
 unsigned = value.Unsigned
 
 -- -(k + 1)
-abbrev minus : ℕ → Value
-minus k = value.Signed (negsuc k)
+abbrev negative : ℕ → Value
+negative k = value.Signed (negsuc k)
 
 abbrev float : ℕ → Value
 float bits = value.Float (ofBits binary64 bits)
@@ -182,21 +182,21 @@ oneByte b = text 1 (b ∷ replicate 15 170) 1 1
 unfoldable pub cases : List Case
 cases =
     -- linear [0, 0.125], signed -3: -0.375; one value only, integer 7: Number 7
-    case (linearOf (f0 ∷ fEighth ∷ [])) (minus 2) (number 0xbfd8000000000000 1 1)
+    case (linearOf (f0 ∷ fEighth ∷ [])) (negative 2) (number 0xbfd8000000000000 1 1)
     ∷ case (linearOf (fEighth ∷ [])) (unsigned 7) (number 0x401c000000000000 1 1)
     -- integer 9007199254740993: 9007199254740992; 9007199254740995: 9007199254740996; largest unsigned: 2^64
     ∷ case (linearOf []) (unsigned 9007199254740993) (number 0x4340000000000000 1 1)
     ∷ case (linearOf []) (unsigned 9007199254740995) (number 0x4340000000000002 1 1)
     ∷ case (linearOf []) (unsigned 18446744073709551615) (number 0x43f0000000000000 1 1)
     -- rational (0,1,0,0,0,0): x = 4 gives +inf, x = 0 NaN
-    ∷ case rational (unsigned 4) (number 0x7ff0000000000000 1 1)
-    ∷ case rational (unsigned 0) (number 0x7ff8000000000000 1 1)
+    ∷ case rationalImage (unsigned 4) (number 0x7ff0000000000000 1 1)
+    ∷ case rationalImage (unsigned 0) (number 0x7ff8000000000000 1 1)
     -- pairs (0,10),(10,20),(20,60): x = 15 interpolated 40, nearest 20; 16 nearest 60; -1 gives 10
     ∷ case (pairs 4) (unsigned 15) (number 0x4044000000000000 1 1)
     ∷ case (pairs 5) (unsigned 15) (number 0x4034000000000000 1 1)
     ∷ case (pairs 5) (unsigned 16) (number 0x404e000000000000 1 1)
-    ∷ case (pairs 4) (minus 0) (number 0x4024000000000000 1 1)
-    ∷ case (pairs 5) (minus 0) (number 0x4024000000000000 1 1)
+    ∷ case (pairs 4) (negative 0) (number 0x4024000000000000 1 1)
+    ∷ case (pairs 5) (negative 0) (number 0x4024000000000000 1 1)
     -- ranges [0,10],[10,20]: integer 10 index 0, float 10 index 1, float 20 and NaN index 2
     ∷ case ranges (unsigned 10) (oneByte 48)
     ∷ case ranges (float f10) (oneByte 49)
@@ -213,9 +213,9 @@ cases =
     ∷ (record { asked = parse (ofLength 95); wanted = range false })
     ∷ (record { asked = parse (ofLength 96); wanted = range true })
     -- integer 6 gives "Gear = Low|PTO", 14 bytes; 13 bytes of room is refusal 8; integer 0 gives "PTO"
-    ∷ (record { asked = apply groups (unsigned 6) 14; wanted = text 14 gearLow 2 2 })
-    ∷ (record { asked = apply groups (unsigned 6) 13; wanted = refused 8 (replicate 13 170) 2 2 })
-    ∷ case groups (unsigned 0) (text 3 ((80 ∷ 84 ∷ 79 ∷ []) ++ replicate 13 170) 2 2)
+    ∷ (record { asked = apply groupsImage (unsigned 6) 14; wanted = text 14 gearLow 2 2 })
+    ∷ (record { asked = apply groupsImage (unsigned 6) 13; wanted = refused 8 (replicate 13 170) 2 2 })
+    ∷ case groupsImage (unsigned 0) (text 3 ((80 ∷ 84 ∷ 79 ∷ []) ++ replicate 13 170) 2 2)
     -- two links to one leaf: 3 visits; limit 2 is refusal 3
     ∷ (record { asked = check twoLinks 3; wanted = visits 3 })
     ∷ (record { asked = check twoLinks 2; wanted = unsound 3 })

@@ -22,12 +22,12 @@ use Rattle.conversion.specs.declared.logic.Answer.the-variants.{Number, 
 use Rattle.conversion.specs.declared.logic.Applied.{Applied}
 
 -- document 01's number of a refusal; 0 for an answer that is none
-abbrev pub refusalOf : Answer → ℕ
-refusalOf (Number x) = 0
-refusalOf (Text n) = 0
-refusalOf Unchanged = 0
-refusalOf Unknown = 0
-refusalOf (Refused r) = numberOf r
+abbrev pub refusalNumber : Answer → ℕ
+refusalNumber (Number x) = 0
+refusalNumber (Text n) = 0
+refusalNumber Unchanged = 0
+refusalNumber Unknown = 0
+refusalNumber (Refused r) = numberOf r
 
 -- the address that refusals 1 to 6 carry
 abbrev pub addressIn : Answer → Word

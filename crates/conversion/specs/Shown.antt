@@ -1,10 +1,11 @@
 -- What the second entry of type 10 shows (document 01: "it shows a part of the image, or the whole question. The question is shown unless the
 -- check accepts, the root has type 10 and a text is chosen."). Assumes nothing: these are definitions.
-use Prim.Native.Nat.{ℕ, _+_, _-_, _≤_}
+use Prim.Native.Nat.{ℕ, _+_}
 use mathlib.Core.Bool.{cond}
 use mathlib.Core.List.{List}
 use lib.Dec.{eqb}
-use lib.ListN.{length, take, drop}
+use lib.ListN.{length}
+use Rattle.words.specs.Words.{part, PartIn}
 use Rattle.common.specs.Text.{textBytes}
 use Rattle.blocks.specs.View.{seen}
 use Rattle.blocks.specs.declared.view.Seen.{Seen}
@@ -40,10 +41,10 @@ shownFor img a limit question = ofCheck (checked img a limit) (ofBlock img quest
 
 -- the bytes that are shown
 abbrev pub showing : List ℕ → List ℕ → Shown → List ℕ
-showing img question (Part from to) = take (to - from) (drop from img)
+showing img question (Part from to) = part img from to
 showing img question Question = question
 
 -- a part lies in the image
-abbrev pub Within : List ℕ → Shown → Type 0
-Within img (Part from to) = (from ≤ to) × (to ≤ length img)
-Within img Question = Unit {0}
+abbrev pub ShownIn : List ℕ → Shown → Type 0
+ShownIn img (Part from to) = PartIn img from to
+ShownIn img Question = Unit {0}

@@ -17,6 +17,7 @@ use tree::check;
 ghost use mathlib.Core.Path.{_≡_};
 ghost use Prim.Native.Nat.{_+_, _≤_};
 ghost use lib.ListN.{length};
+ghost use Rattle.words.specs.Words.{PartIn};
 ghost use Rattle.common.specs.Text.{textBytes};
 ghost use Rattle.pieces.specs.Answer as says;
 ghost use Rattle.pieces.specs.Did.{Says, SaidIn};
@@ -26,7 +27,7 @@ ghost use Rattle.tree.specs.declared.Checked.the-variants.{Accepted};
 ghost use Rattle.steps.specs.Mode.{standard};
 ghost use Rattle.engine.specs.Apply.{applied as appliedTo};
 ghost use Rattle.conversion.specs.Laid.{Laid, Answered};
-ghost use Rattle.conversion.specs.Entry.{refusalOf, addressIn, call, settled, applying};
+ghost use Rattle.conversion.specs.Entry.{refusalNumber, addressIn, call, settled, applying};
 
 // Document 01's answers.
 pub enum Answer {
@@ -41,7 +42,7 @@ pub enum Answer {
 impl Answer {
     // Document 01's number of the refusal; 0 where nothing is refused.
     pub fn refusal(self) -> u8
-        ensures { λ r. ⌜ r ≡ refusalOf self ⌝ }
+        ensures { λ r. ⌜ r ≡ refusalNumber self ⌝ }
     {
         match self {
             Answer::Refused(refusal) => refusal.number(),
@@ -69,7 +70,7 @@ pub struct Applied {
 
 // A text that runs in the image: it is looked at once, no further than one byte past the room, and then copied if it fits.
 fn lay_run(image: &[u8], from: usize, to: usize, address: u64, out: &mut [u8]) -> Answer
-    requires { ⌜ (from ≤ to) × (to ≤ length (now image)) ⌝ }
+    requires { ⌜ PartIn (now image) from to ⌝ }
     ensures { λ r. ⌜ Answered address (says.text (textBytes (now (image .entry)) from to)) (now (out .entry)) (now (out .exit)) r ⌝ }
 {
     let end = measure(image, from, to, out.len(), 0);

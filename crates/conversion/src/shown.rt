@@ -10,7 +10,7 @@ ghost use mathlib.Core.Path.{_≡_};
 ghost use Prim.Native.Nat.{_+_, _≤_};
 ghost use lib.ListN.{length};
 ghost use Rattle.blocks.specs.View.{seen};
-ghost use Rattle.conversion.specs.Shown.{ofBlock, shownFor, Within, showing};
+ghost use Rattle.conversion.specs.Shown.{ofBlock, shownFor, ShownIn, showing};
 
 // What is shown: a part of the image, or the question.
 pub enum Shown {
@@ -21,7 +21,7 @@ pub enum Shown {
 // The root, whose header lies in the image. A text that is chosen is looked at once, to its end.
 fn shown_by(image: &[u8], address: u64, question: &[u8]) -> Shown
     requires { ⌜ address + 24 ≤ length (now image) ⌝ }
-    ensures { λ r. ⌜ (r ≡ ofBlock (now (image .entry)) (now (question .entry)) (seen (now (image .entry)) address)) × Within (now (image .entry)) r ⌝ }
+    ensures { λ r. ⌜ (r ≡ ofBlock (now (image .entry)) (now (question .entry)) (seen (now (image .entry)) address)) × ShownIn (now (image .entry)) r ⌝ }
 {
     match View::look(image, address as usize) {
         Seen::Open(b) => {
@@ -42,7 +42,7 @@ fn shown_by(image: &[u8], address: u64, question: &[u8]) -> Shown
 
 // Which part of the image is shown, if one is.
 pub fn shown_for(image: &[u8], address: u64, limit: u32, question: &[u8]) -> Shown
-    ensures { λ r. ⌜ (r ≡ shownFor (now (image .entry)) address limit (now (question .entry))) × Within (now (image .entry)) r ⌝ }
+    ensures { λ r. ⌜ (r ≡ shownFor (now (image .entry)) address limit (now (question .entry))) × ShownIn (now (image .entry)) r ⌝ }
 {
     match check(image, address, limit) {
         Checked::Accepted(_) => shown_by(image, address, question),

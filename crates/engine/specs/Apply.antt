@@ -23,7 +23,7 @@ use Rattle.steps.specs.declared.choice.Choice.{Choice}
 use Rattle.steps.specs.declared.choice.Choice.the-variants as choice
 use Rattle.steps.specs.declared.step.Step.{Step}
 use Rattle.steps.specs.declared.step.Step.the-variants.{ByKey, ByRange, ByBits, Done}
-use Rattle.pieces.specs.Answer.{Answer, number, text, unchanged, unknown, formula, broken, answerOf, prefixed}
+use Rattle.pieces.specs.Answer.{Answer, number, text, unchanged, unknown, formula, broken, spelled, prefixed}
 use Rattle.pieces.specs.Label.{bar, label}
 use Rattle.pieces.specs.Did.{Did}
 use Rattle.pieces.specs.declared.said.Outcome.{Outcome}
@@ -44,7 +44,7 @@ begin a x = record { says = x .says; begun = a ∷ x .begun }
 -- ---- types 7 and 8: a conversion is applied to the original value
 abbrev pub passedOn : (ℕ → Value → Ap) → List ℕ → Value → Choice → Ap
 passedOn nested img v (choice.Nested a) = nested a v
-passedOn nested img v (choice.Done p) = quiet (answerOf img p)
+passedOn nested img v (choice.Done p) = quiet (spelled img p)
 
 -- ---- bit groups
 abbrev pub maskBy : Word → ℕ
@@ -110,7 +110,7 @@ abbrev pub ruled : (ℕ → Value → Ap) → List ℕ → Value → Step → Ap
 ruled nested img v (ByKey b) = passedOn nested img v (chosenKey img b (taken v))
 ruled nested img v (ByRange b) = passedOn nested img v (chosenRange img b (taken v))
 ruled nested img v (ByBits b bits) = bitGroups nested img b bits
-ruled nested img v (Done p) = quiet (answerOf img p)
+ruled nested img v (Done p) = quiet (spelled img p)
 
 -- the block at a applied to v, with so many levels left; where none is left it cannot be opened
 unfoldable pub applied : ℕ → Mode → List ℕ → List ℕ → ℕ → Value → Ap

@@ -25,7 +25,7 @@ use steps::step::step_at;
 ghost use mathlib.Core.Path.{_≡_};
 ghost use Prim.Native.Nat.{_+_, _≤_};
 ghost use lib.ListN.{length};
-ghost use Rattle.leads.specs.Lead.{Inside};
+ghost use Rattle.leads.specs.Lead.{LeadIn};
 ghost use Rattle.rules.specs.Numbers.{taken};
 ghost use Rattle.steps.specs.Fits.{Fits};
 ghost use Rattle.steps.specs.Choice.{chosenKey, chosenRange, ChoiceIn};
@@ -164,7 +164,7 @@ fn part(
     pos: usize,
     lim: usize,
 ) -> Outcome
-    requires { ⌜ (lim ≤ length (now out)) × (pos ≤ length (now out) + 1) × Inside (now image) lead ⌝ }
+    requires { ⌜ (lim ≤ length (now out)) × (pos ≤ length (now out) + 1) × LeadIn (now image) lead ⌝ }
     ensures { λ r. ⌜ Does (now (image .entry)) (now (out .entry)) (now (out .exit)) pos lim
         (afterBar started (partOf (applied left mode (now (image .entry)) (now (text .entry))) (now (image .entry)) lead masked)) r × NoWords (r .said) ⌝ }
 {

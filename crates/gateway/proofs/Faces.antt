@@ -4,11 +4,11 @@ use mathlib.Core.Path.{_≡_, ap, _∙_}
 use mathlib.Core.List.{List}
 use Prim.Native.Nat.{ℕ}
 use Rattle.conversion.specs.Entry.{Call, call}
-use Rattle.conversion.specs.Shown.{Within}
+use Rattle.conversion.specs.Shown.{ShownIn}
 use Rattle.conversion.specs.declared.logic.Applied.{Applied}
 use Rattle.conversion.specs.declared.shown.Shown.{Shown}
 use Rattle.conversion.specs.declared.shown.Shown.the-variants.{Part, Question}
-use Rattle.writer.specs.Write.{Outcome, wrote}
+use Rattle.writer.specs.Write.{WriteCall, writeCall}
 use Rattle.writer.specs.declared.Written.{Written}
 use Rattle.gateway.specs.Checked.{Ordered}
 use Rattle.gateway.specs.Applied.{appliedFace, face, callFace}
@@ -21,10 +21,10 @@ pub faced : (r : Applied) (out : List ℕ) (c : Call) (m : MdfApplied) → call 
 faced r out c m called shown = ap (λ (x : MdfApplied). face x out) shown ∙ ap callFace called
 
 -- the same for the writer
-pub faced-writing : (r : Written) (out : List ℕ) (o : Outcome) (m : MdfWritten) → wrote r out ≡ o → m ≡ writtenFace r → faceWrote m out ≡ writingFace o
+pub faced-writing : (r : Written) (out : List ℕ) (o : WriteCall) (m : MdfWritten) → writeCall r out ≡ o → m ≡ writtenFace r → faceWrote m out ≡ writingFace o
 faced-writing r out o m written shown = ap (λ (x : MdfWritten). faceWrote x out) shown ∙ ap writingFace written
 
 -- a part that lies in the image ends where it starts or later
-pub ordered : (img : List ℕ) (s : Shown) → Within img s → Ordered s
+pub ordered : (img : List ℕ) (s : Shown) → ShownIn img s → Ordered s
 ordered img (Part from to) h = h .0
 ordered img Question h = tt

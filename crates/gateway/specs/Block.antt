@@ -7,7 +7,7 @@ use Rattle.common.specs.Refusal.{numberOf, addressOf}
 use Rattle.blocks.specs.declared.Block.{Block}
 use Rattle.blocks.specs.declared.Parsed.{Parsed}
 use Rattle.blocks.specs.declared.Parsed.the-variants.{Whole, Refused}
-use Rattle.writer.specs.Write.{Outcome}
+use Rattle.writer.specs.Write.{WriteCall}
 use Rattle.writer.specs.declared.Written.{Written}
 use Rattle.writer.specs.declared.Written.the-variants.{Bytes, Unwritten}
 use Rattle.gateway.specs.Checked.{addressOr}
@@ -94,11 +94,11 @@ writtenFace (Unwritten r) = record { refusal = numberOf r; length = 0 }
 
 -- the answer, and what the lent output holds
 pub record FaceWrote : Type 0 where
-  pub says : MdfWritten
-  pub holds : List ℕ
+  pub result : MdfWritten
+  pub output : List ℕ
 
 abbrev pub faceWrote : MdfWritten → List ℕ → FaceWrote
-faceWrote r out = record { says = r; holds = out }
+faceWrote r out = record { result = r; output = out }
 
-abbrev pub writingFace : Outcome → FaceWrote
-writingFace o = faceWrote (writtenFace (o .says)) (o .holds)
+abbrev pub writingFace : WriteCall → FaceWrote
+writingFace o = faceWrote (writtenFace (o .result)) (o .output)

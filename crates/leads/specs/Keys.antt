@@ -16,16 +16,16 @@ sameBytes (x ∷ xs) [] = false
 sameBytes (x ∷ xs) (y ∷ ys) = cond (eqb x y) (sameBytes xs ys) false
 
 -- a reference leads to a text that equals t
-abbrev pub isText : List ℕ → List ℕ → Lead → Bool
-isText img t (Words from to) = sameBytes (textBytes img from to) t
-isText img t (Nested a) = false
-isText img t Nil = false
-isText img t Elsewhere = false
+abbrev pub isKey : List ℕ → List ℕ → Lead → Bool
+isKey img t (Words from to) = sameBytes (textBytes img from to) t
+isKey img t (Nested a) = false
+isKey img t Nil = false
+isKey img t Elsewhere = false
 
 -- the first of n keys from the j-th on whose text equals t, the keys standing at every stride-th reference; j + n if there is none
 unfoldable pub firstText : List ℕ → View → List ℕ → ℕ → ℕ → ℕ → ℕ
 firstText img b t stride j zero = j
-firstText img b t stride j (suc n) = cond (isText img t (leadAt img b (stride * j))) j (firstText img b t stride (j + 1) n)
+firstText img b t stride j (suc n) = cond (isKey img t (leadAt img b (stride * j))) j (firstText img b t stride (j + 1) n)
 
 -- text to value: the first reference whose text equals the input; no match: the number of references
 unfoldable pub valueKey : List ℕ → View → List ℕ → ℕ
@@ -36,8 +36,8 @@ unfoldable pub pairCount : View → ℕ
 pairCount b = (b .refs - 1) / 2
 
 -- the first equal key: its output; no match: the text at twice the pair count
-abbrev pub outputOf : ℕ → ℕ → ℕ
-outputOf j pairs = cond (ltb j pairs) (2 * j + 1) (2 * pairs)
+abbrev pub outputAt : ℕ → ℕ → ℕ
+outputAt j pairs = cond (ltb j pairs) (2 * j + 1) (2 * pairs)
 
 unfoldable pub translated : List ℕ → View → List ℕ → Lead
-translated img b t = leadAt img b (outputOf (firstText img b t 2 0 (pairCount b)) (pairCount b))
+translated img b t = leadAt img b (outputAt (firstText img b t 2 0 (pairCount b)) (pairCount b))

@@ -5,6 +5,7 @@ use mathlib.Core.Bool.{cond}
 use mathlib.Core.List.{List}
 use lib.Dec.{eqb}
 use lib.ListN.{length}
+use Rattle.words.specs.Words.{PartIn}
 use Rattle.common.specs.Header.{inside, isConversion}
 use Rattle.common.specs.Text.{runOf}
 use Rattle.common.specs.declared.text.Text.{Text}
@@ -36,8 +37,8 @@ unfoldable pub leadAt : List ℕ → View → ℕ → Lead
 leadAt img b i = byLink img (referenceIn img b i)
 
 -- the text, or the header of the conversion, that a reference leads to lies in the image
-abbrev pub Inside : List ℕ → Lead → Type 0
-Inside img (Words from to) = (from ≤ to) × (to ≤ length img)
-Inside img (Nested a) = a + 24 ≤ length img
-Inside img Nil = Unit {0}
-Inside img Elsewhere = Unit {0}
+abbrev pub LeadIn : List ℕ → Lead → Type 0
+LeadIn img (Words from to) = PartIn img from to
+LeadIn img (Nested a) = a + 24 ≤ length img
+LeadIn img Nil = Unit {0}
+LeadIn img Elsewhere = Unit {0}

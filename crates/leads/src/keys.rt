@@ -6,8 +6,9 @@ ghost use mathlib.Core.Path.{_≡_};
 ghost use Prim.Native.Nat.{_-_, _/_, _≤_, _<_};
 ghost use mathlib.Core.List.{[]};
 ghost use lib.ListN.{length};
+ghost use Rattle.words.specs.Words.{PartIn};
 ghost use Rattle.common.specs.Text.{textBytes};
-ghost use Rattle.leads.specs.Keys.{sameBytes, isText, firstText, valueKey, pairCount, outputOf, translated};
+ghost use Rattle.leads.specs.Keys.{sameBytes, isKey, firstText, valueKey, pairCount, outputAt, translated};
 ghost use Rattle.leads.specs.Lead.{leadAt};
 
 // Whether a text that runs up to `to` ends at p.
@@ -21,7 +22,7 @@ fn is_end(image: &[u8], p: usize, to: usize) -> bool
 // Whether the text that runs from `from` up to `to` is `text`. It is looked at up to the first difference, and no further than one byte past the
 // end of `text`.
 fn is_same(image: &[u8], from: usize, to: usize, text: &[u8]) -> bool
-    requires { ⌜ (from ≤ to) × (to ≤ length (now image)) ⌝ }
+    requires { ⌜ PartIn (now image) from to ⌝ }
     ensures { λ r. ⌜ r ≡ sameBytes (textBytes (now (image .entry)) from to) (now (text .entry)) ⌝ }
 {
     if to - from < text.len() {
@@ -47,7 +48,7 @@ fn is_same(image: &[u8], from: usize, to: usize, text: &[u8]) -> bool
 
 // Whether the i-th reference leads to a text that equals `text`.
 fn is_key(image: &[u8], b: View, i: u64, text: &[u8]) -> bool
-    ensures { λ r. ⌜ r ≡ isText (now (image .entry)) (now (text .entry)) (leadAt (now (image .entry)) b i) ⌝ }
+    ensures { λ r. ⌜ r ≡ isKey (now (image .entry)) (now (text .entry)) (leadAt (now (image .entry)) b i) ⌝ }
 {
     match lead_at(image, b, i) {
         Lead::Words(from, to) => is_same(image, from, to, text),
@@ -89,7 +90,7 @@ fn pairs_of(refs: u64) -> u64
 // The reference that holds the answer: behind the key, or behind all pairs.
 fn output_of(j: u64, pairs: u64) -> u64
     requires { ⌜ pairs < 9223372036854775808 ⌝ }
-    ensures { λ r. ⌜ r ≡ outputOf j pairs ⌝ }
+    ensures { λ r. ⌜ r ≡ outputAt j pairs ⌝ }
 {
     if j < pairs { 2 * j + 1 } else { 2 * pairs }
 }

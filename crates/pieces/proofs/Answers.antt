@@ -7,12 +7,13 @@ use native.Mathlib.Omega.{arith}
 use denote.Enum.Declared.{tagOf}
 use types.Run.{OneOf, miss}
 use lib.ListN.{length, length-append}
+use Rattle.words.proofs.Clash.{clash}
 use Rattle.common.specs.Text.{textBytes}
 use Rattle.steps.specs.Plain.{PlainIn}
 use Rattle.steps.specs.declared.plain.Plain.{Plain}
 use Rattle.steps.specs.declared.plain.Plain.the-variants as plain
 use Rattle.pieces.specs.Write.{sat, sat32, Wrote, Put}
-use Rattle.pieces.specs.Answer.{Answer, number, text, unchanged, unknown, formula, broken, answerOf, prefixed}
+use Rattle.pieces.specs.Answer.{Answer, number, text, unchanged, unknown, formula, broken, spelled, prefixed}
 use Rattle.pieces.specs.Did.{Says, SaysText, SaidIn, laid, laidText, Did, NoWords, toldOf}
 use Rattle.pieces.specs.declared.said.Said.{Said}
 use Rattle.pieces.specs.declared.said.Said.the-variants as said
@@ -21,7 +22,7 @@ use Rattle.pieces.proofs.said.Said as saids
 use Rattle.pieces.proofs.Laws.{none, forget, next, then}
 
 -- a plain answer writes nothing
-told-did : (img o : List ℕ) (pos lim : ℕ) (p : Plain) → PlainIn img p → Did img o o pos lim (answerOf img p) 0 (toldOf p)
+told-did : (img o : List ℕ) (pos lim : ℕ) (p : Plain) → PlainIn img p → Did img o o pos lim (spelled img p) 0 (toldOf p)
 told-did img o pos lim (plain.Number x) h = record { says = refl; count = refl; wrote = none o pos lim }
 told-did img o pos lim (plain.Words from to) h = record { says = (refl, h .0, h .1); count = refl; wrote = none o pos lim }
 told-did img o pos lim plain.Unchanged h = record { says = refl; count = refl; wrote = none o pos lim }
@@ -29,8 +30,8 @@ told-did img o pos lim plain.Unknown h = record { says = refl; count = refl; wro
 told-did img o pos lim plain.Formula h = record { says = refl; count = refl; wrote = none o pos lim }
 told-did img o pos lim plain.Broken h = record { says = refl; count = refl; wrote = none o pos lim }
 
-pub told-as : (img o : List ℕ) (pos lim : ℕ) (p : Plain) {r : Outcome} → PlainIn img p → r ≡ toldOf p → Did img o o pos lim (answerOf img p) 0 r
-told-as img o pos lim p h e = subst (λ (r : Outcome). Did img o o pos lim (answerOf img p) 0 r) (sym e) (told-did img o pos lim p h)
+pub told-as : (img o : List ℕ) (pos lim : ℕ) (p : Plain) {r : Outcome} → PlainIn img p → r ≡ toldOf p → Did img o o pos lim (spelled img p) 0 r
+told-as img o pos lim p h e = subst (λ (r : Outcome). Did img o o pos lim (spelled img p) 0 r) (sym e) (told-did img o pos lim p h)
 
 -- nothing is said but a word
 pub quiet-did : {img : List ℕ} (x : Answer) (o : List ℕ) (pos lim : ℕ) {n : ℕ} {r : Outcome} → Says img (length o) pos x (r .said) → r .visits ≡ sat32 n → laid x (r .said) ≡ []
@@ -66,16 +67,16 @@ put-did told count put = record { says = rw told (put .end); count = count; wrot
 pub pasted-did : {img o p q : List ℕ} {pos lim : ℕ} (from to : ℕ) {e n : ℕ} (x : Answer) {r s : Outcome} → lim ≤ length o → pos ≤ length o + 1
     → Did img o p pos lim x n r → r .said ≡ said.Words from to → Put p q pos lim (textBytes img from to) e → s .said ≡ said.Text e
     → s .visits ≡ r .visits → Did img o q pos lim x n s
-pasted-did from to (number y) fits low did told put end count = let z : said.Words from to ≡ said.Number y = sym told ∙ did .says in let q : _≡_ {A = ℕ} 0 1 = cc in absurd (omega arith)
+pasted-did from to (number y) fits low did told put end count = let z : said.Words from to ≡ said.Number y = sym told ∙ did .says in clash cc
 pasted-did {img} {o} {p} {q} {pos} {lim} from to {e} (text t) fits low did told put end count =
     let part : SaysText img (length o) pos t (said.Words from to) = subst (SaysText img (length o) pos t) told (did .says) in
     let before : Wrote o p pos lim [] = subst (λ (s : Said). Wrote o p pos lim (laidText t s)) told (did .wrote) in
     let both = then {s = []} fits (record { end = omega arith; wrote = before }) put in
     put-did end (count ∙ did .count) (subst (λ (u : List ℕ). Put o q pos lim u e) (sym (part .0)) both)
-pasted-did from to unchanged fits low did told put end count = let z : said.Words from to ≡ said.Unchanged = sym told ∙ did .says in let q : _≡_ {A = ℕ} 0 1 = cc in absurd (omega arith)
-pasted-did from to unknown fits low did told put end count = let z : said.Words from to ≡ said.Unknown = sym told ∙ did .says in let q : _≡_ {A = ℕ} 0 1 = cc in absurd (omega arith)
-pasted-did from to formula fits low did told put end count = let z : said.Words from to ≡ said.Formula = sym told ∙ did .says in let q : _≡_ {A = ℕ} 0 1 = cc in absurd (omega arith)
-pasted-did from to broken fits low did told put end count = let z : said.Words from to ≡ said.Broken = sym told ∙ did .says in let q : _≡_ {A = ℕ} 0 1 = cc in absurd (omega arith)
+pasted-did from to unchanged fits low did told put end count = let z : said.Words from to ≡ said.Unchanged = sym told ∙ did .says in clash cc
+pasted-did from to unknown fits low did told put end count = let z : said.Words from to ≡ said.Unknown = sym told ∙ did .says in clash cc
+pasted-did from to formula fits low did told put end count = let z : said.Words from to ≡ said.Formula = sym told ∙ did .says in clash cc
+pasted-did from to broken fits low did told put end count = let z : said.Words from to ≡ said.Broken = sym told ∙ did .says in clash cc
 
 -- ---- behind other bytes
 says-behind : (img pre t : List ℕ) (room pos e : ℕ) (s : Said) → NoWords s → e ≡ sat room (pos + length pre) → SaysText img room e t s → SaysText img room pos (pre ++ t) s

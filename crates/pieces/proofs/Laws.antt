@@ -11,6 +11,7 @@ use native.Mathlib.Omega.{arith}
 use lib.Dec.{eqb}
 use lib.ListN.{length, getD, take, drop, set, length-set, length-append, length-take, length-drop, List·getD-append}
 use lib.Seq.{take-suc, take-all, take-length, take-take, length-take-le, getD-take, getD-drop, getD-set-same, getD-set-other, getD-append-add}
+use Rattle.words.specs.Words.{part}
 use Rattle.common.specs.Text.{untilZero, textBytes}
 use Rattle.common.proofs.Texts.{bytes-short, text-shown}
 use Rattle.pieces.specs.Write.{sat, Wrote, Put}
@@ -90,11 +91,11 @@ module _ (o p : List ℕ) (pos lim : ℕ) (s : List ℕ) where
           w .text i held hl ∙ getD-take k s i 0 there ∙ sym (getD-take n s i 0 short)
 
 -- ---- the part of s from one place up to another
-pub part-start : (o : List ℕ) (pos lim : ℕ) (s : List ℕ) (from : ℕ) → Wrote o o pos lim (take (from - from) (drop from s))
+pub part-start : (o : List ℕ) (pos lim : ℕ) (s : List ℕ) (from : ℕ) → Wrote o o pos lim (part s from from)
 part-start o pos lim s from = let z : from - from ≡ 0 = omega arith in rw z (none o pos lim)
 
 pub part-more : (o p : List ℕ) (pos lim : ℕ) (s : List ℕ) (from i e : ℕ) → from ≤ i → i < length s → e ≡ pos + (i - from) → e < lim → lim ≤ length o
-    → Wrote o p pos lim (take (i - from) (drop from s)) → Wrote o (set p e (getD s i 0)) pos lim (take (i + 1 - from) (drop from s))
+    → Wrote o p pos lim (part s from i) → Wrote o (set p e (getD s i 0)) pos lim (part s from (i + 1))
 part-more o p pos lim s from i e h k he hl out w =
     let place : i ≡ from + (i - from) = omega arith in
     one-more o p pos lim (drop from s) (i - from) (i + 1 - from) (getD s i 0) e (omega (arith, length-drop from s)) (omega arith) (ap (λ (j : ℕ). getD s j 0) place ∙ sym (getD-drop from s (i - from) 0)) he hl out w
@@ -118,7 +119,7 @@ shorter-run img from n to h =
     let k : (from + n) - from ≡ n = omega arith in
     ap (λ (m : ℕ). untilZero (take m (drop from img))) k
     ∙ ap untilZero (sym (take-take n (to - from) (drop from img) (omega arith)))
-    ∙ until-take n (take (to - from) (drop from img))
+    ∙ until-take n (part img from to)
 
 -- what is looked at of a text: all of it, or one byte past the room
 pub looked-at : (img : List ℕ) (from to n : ℕ) → from ≤ to → length (textBytes img from (min to (from + n))) ≡ min (length (textBytes img from to)) n

@@ -17,13 +17,13 @@ pub data Answer : Type 0 where
   broken : Answer
 
 -- a text that runs in the image is its bytes
-abbrev pub answerOf : List ℕ → Plain → Answer
-answerOf img (plain.Number x) = number x
-answerOf img (plain.Words from to) = text (textBytes img from to)
-answerOf img plain.Unchanged = unchanged
-answerOf img plain.Unknown = unknown
-answerOf img plain.Formula = formula
-answerOf img plain.Broken = broken
+abbrev pub spelled : List ℕ → Plain → Answer
+spelled img (plain.Number x) = number x
+spelled img (plain.Words from to) = text (textBytes img from to)
+spelled img plain.Unchanged = unchanged
+spelled img plain.Unknown = unknown
+spelled img plain.Formula = formula
+spelled img plain.Broken = broken
 
 -- a text with other bytes before it
 abbrev pub prefixed : List ℕ → Answer → Answer

@@ -1,8 +1,9 @@
 -- What each function of an application ensures (for inner contracts). Assumes nothing: these are definitions.
 use mathlib.Core.Path.{_≡_}
 use mathlib.Core.List.{List, []}
-use Prim.Native.Nat.{ℕ, _+_, _≤_}
+use Prim.Native.Nat.{ℕ, _+_}
 use lib.ListN.{length}
+use Rattle.words.specs.Words.{PartIn}
 use Rattle.common.specs.Text.{textBytes}
 use Rattle.steps.specs.declared.plain.Plain.{Plain}
 use Rattle.steps.specs.declared.plain.Plain.the-variants as plain
@@ -15,7 +16,7 @@ use Rattle.pieces.specs.declared.said.Outcome.{Outcome}
 -- a text t is said by where it runs in the image, or, put together from pos on, by the place behind it, or one behind the room
 abbrev pub SaysText : List ℕ → ℕ → ℕ → List ℕ → Said → Type 0
 SaysText img room pos t (said.Number x) = ⊥
-SaysText img room pos t (said.Words from to) = (t ≡ textBytes img from to) × (from ≤ to) × (to ≤ length img)
+SaysText img room pos t (said.Words from to) = (t ≡ textBytes img from to) × PartIn img from to
 SaysText img room pos t (said.Text e) = e ≡ sat room (pos + length t)
 SaysText img room pos t said.Unchanged = ⊥
 SaysText img room pos t said.Unknown = ⊥
@@ -34,7 +35,7 @@ Says img room pos broken s = s ≡ said.Broken
 -- a run that is said lies in the image
 abbrev pub SaidIn : List ℕ → Said → Type 0
 SaidIn img (said.Number x) = Unit {0}
-SaidIn img (said.Words from to) = (from ≤ to) × (to ≤ length img)
+SaidIn img (said.Words from to) = PartIn img from to
 SaidIn img (said.Text e) = Unit {0}
 SaidIn img said.Unchanged = Unit {0}
 SaidIn img said.Unknown = Unit {0}

@@ -3,7 +3,8 @@ use common::text::text_end;
 ghost use mathlib.Core.Path.{_≡_};
 ghost use mathlib.Core.List.{[], _∷_};
 ghost use Prim.Native.Nat.{_+_, _-_, _≤_, _<_, min};
-ghost use lib.ListN.{length, take, drop};
+ghost use lib.ListN.{length};
+ghost use Rattle.words.specs.Words.{part, PartIn};
 ghost use Rattle.common.specs.Text.{textBytes};
 ghost use Rattle.pieces.specs.Write.{sat32, Wrote, Put};
 
@@ -45,7 +46,7 @@ fn reach(from: usize, to: usize, room: usize, pos: usize) -> usize
 
 // The end of a text that is to stand at `pos`, or one byte past the room.
 pub fn measure(image: &[u8], from: usize, to: usize, room: usize, pos: usize) -> usize
-    requires { ⌜ (from ≤ to) × (to ≤ length (now image)) ⌝ }
+    requires { ⌜ PartIn (now image) from to ⌝ }
     ensures { λ r. ⌜ r ≡ from + min (length (textBytes (now (image .entry)) from to)) (room + 1 - pos) ⌝ }
 {
     text_end(image, from, reach(from, to, room, pos))
@@ -53,8 +54,8 @@ pub fn measure(image: &[u8], from: usize, to: usize, room: usize, pos: usize) ->
 
 // The bytes of the image from `from` up to `to`. It stops at `lim`: measuring takes no time.
 pub fn copy(image: &[u8], from: usize, to: usize, out: &mut [u8], pos: usize, lim: usize)
-    requires { ⌜ (lim ≤ length (now out)) × (from ≤ to) × (to ≤ length (now image)) ⌝ }
-    ensures { λ _. ⌜ Wrote (now (out .entry)) (now (out .exit)) pos lim (take (to - from) (drop from (now (image .entry)))) ⌝ }
+    requires { ⌜ (lim ≤ length (now out)) × PartIn (now image) from to ⌝ }
+    ensures { λ _. ⌜ Wrote (now (out .entry)) (now (out .exit)) pos lim (part (now (image .entry)) from to) ⌝ }
 {
     let mut p = pos;
     let mut i = from;
@@ -70,7 +71,7 @@ pub fn copy(image: &[u8], from: usize, to: usize, out: &mut [u8], pos: usize, li
 
 // The text that runs in the image from `from` up to `to`.
 pub fn paste(image: &[u8], from: usize, to: usize, out: &mut [u8], pos: usize, lim: usize) -> usize
-    requires { ⌜ (lim ≤ length (now out)) × (pos ≤ length (now out) + 1) × (from ≤ to) × (to ≤ length (now image)) ⌝ }
+    requires { ⌜ (lim ≤ length (now out)) × (pos ≤ length (now out) + 1) × PartIn (now image) from to ⌝ }
     ensures { λ r. ⌜ Put (now (out .entry)) (now (out .exit)) pos lim (textBytes (now (image .entry)) from to) r ⌝ }
 {
     let end = measure(image, from, to, out.len(), pos);

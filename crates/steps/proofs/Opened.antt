@@ -7,6 +7,7 @@ use native.Mathlib.Omega.{arith}
 use borrow.Author.Tests.{leb-true}
 use lib.Dec.{leb}
 use lib.ListN.{length}
+use Rattle.words.proofs.Clash.{clash}
 use Rattle.blocks.specs.Block.{refCount, fieldsPlace, fieldsAt, valCount, valuesPlace, blockEnd, blockAt, opened}
 use Rattle.blocks.specs.View.{viewOf, seenOf, seen}
 use Rattle.blocks.specs.declared.Block.{Block}
@@ -18,7 +19,7 @@ use Rattle.steps.specs.Fits.{Fits}
 
 test : (img : List ℕ) (x : Bool) (b : View) (c : Block) (r : Refusal) → (x ≡ true → Fits img (viewOf c)) → seenOf (cond x (Whole c) (Refused r)) ≡ Open b → Fits img b
 test img true b c r h e = let same : viewOf c ≡ b = cc in subst (Fits img) same (h refl)
-test img false b c r h e = let z : _≡_ {A = ℕ} 0 1 = cc in absurd (omega arith)
+test img false b c r h e = clash cc
 
 at-fits : (img : List ℕ) (a : ℕ) → blockEnd img a ≤ length img → Fits img (viewOf (blockAt img a))
 unfolding blockEnd valuesPlace fieldsPlace refCount valCount blockAt fieldsAt

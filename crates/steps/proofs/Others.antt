@@ -18,7 +18,7 @@ use Rattle.rules.specs.Numbers.{taken}
 use Rattle.rules.specs.declared.number.Value.{Value}
 use Rattle.rules.specs.declared.number.Value.the-variants as given
 use Rattle.rules.proofs.number.Value as givens
-use Rattle.steps.specs.Plain.{byNumber, numbered, isText, orUnchanged}
+use Rattle.steps.specs.Plain.{byNumber, byTaken, isTextValue, orUnchanged}
 use Rattle.steps.specs.Choice.{ifConversion}
 use Rattle.steps.specs.Step.{typed}
 use Rattle.steps.specs.declared.mode.Mode.{Mode}
@@ -26,7 +26,7 @@ use Rattle.steps.specs.declared.plain.Plain.the-variants as plain
 use Rattle.steps.specs.declared.choice.Choice.the-variants as choice
 use Rattle.steps.specs.declared.step.Step.the-variants as step
 
-pub no-text : (v : Value) → OneOf (0 ∷ 1 ∷ 2 ∷ 4 ∷ []) (tagOf givens.the-type v) → isText v ≡ false
+pub no-text : (v : Value) → OneOf (0 ∷ 1 ∷ 2 ∷ 4 ∷ []) (tagOf givens.the-type v) → isTextValue v ≡ false
 no-text (given.Unsigned n) h = refl
 no-text (given.Signed n) h = refl
 no-text (given.Float x) h = refl
@@ -63,7 +63,7 @@ no-rule (kind.Unknown n) whole vs x h = refl
 
 module _ (mode : Mode) (img t : List ℕ) (b : View) (v : Value) where
   pub plain-type : (k : ConversionType) → OneOf (0 ∷ 1 ∷ 2 ∷ 3 ∷ 4 ∷ 5 ∷ 6 ∷ 12 ∷ []) (tagOf kinds.the-type k)
-      → typed mode img t b v k ≡ step.Done (numbered k (values img (b .firstval) (b .valcount)) (taken v))
+      → typed mode img t b v k ≡ step.Done (byTaken k (values img (b .firstval) (b .valcount)) (taken v))
   plain-type kind.Identity h = refl
   plain-type kind.Linear h = refl
   plain-type kind.Rational h = refl

@@ -11,7 +11,7 @@ use Rattle.blocks.specs.View.{valueIn}
 use Rattle.blocks.specs.declared.view.View.{View}
 use Rattle.blocks.specs.declared.Number.{Number}
 use Rattle.blocks.specs.declared.Number.the-variants as found
-use Rattle.leads.specs.Lead.{Inside}
+use Rattle.leads.specs.Lead.{LeadIn}
 use Rattle.leads.specs.Keys.{valueKey, translated}
 use Rattle.leads.proofs.Leads.{lead-at-inside}
 use Rattle.rules.specs.declared.number.Value.{Value}
@@ -19,14 +19,14 @@ use Rattle.rules.specs.declared.number.Taken.{Taken}
 use Rattle.rules.specs.declared.number.Taken.the-variants as took
 use Rattle.steps.specs.Fits.{Fits}
 use Rattle.steps.specs.Mode.{bitsOf}
-use Rattle.steps.specs.Plain.{byNumber, numbered, orUnknown, textToValue, PlainIn}
+use Rattle.steps.specs.Plain.{byNumber, byTaken, orUnknown, textToValue, PlainIn}
 use Rattle.steps.specs.Step.{groupedIn, grouped, StepIn}
 use Rattle.steps.specs.declared.mode.Mode.{Mode}
 use Rattle.steps.specs.declared.mode.Edition.{Edition}
 use Rattle.steps.specs.declared.mode.Edition.the-variants.{Mdf410, Mdf420}
 
 module _ (img : List ℕ) where
-  pub translated-inside : (b : View) (t : List ℕ) → Inside img (translated img b t)
+  pub translated-inside : (b : View) (t : List ℕ) → LeadIn img (translated img b t)
   unfolding translated
   translated-inside b t = lead-at-inside img b _
 
@@ -45,7 +45,7 @@ module _ (img : List ℕ) where
   by-number-in kind.BitGroups whole vs x = tt
   by-number-in (kind.Unknown n) whole vs x = tt
 
-  pub numbered-in : (k : ConversionType) (vs : List Float) (n : Taken) → PlainIn img (numbered k vs n)
+  pub numbered-in : (k : ConversionType) (vs : List Float) (n : Taken) → PlainIn img (byTaken k vs n)
   numbered-in k vs (took.Number x whole) = by-number-in k whole vs x
   numbered-in k vs took.NoNumber = tt
 

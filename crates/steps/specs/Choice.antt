@@ -44,17 +44,17 @@ decided lead.Nil false default = default
 decided lead.Elsewhere matched default = default
 
 -- the reference at the index decides
-abbrev pub followed : List ℕ → View → Searched → Bool → Choice
-followed img b (Matched i) hasDefault = decided (leadAt img b i) true (defaultOf img b hasDefault)
-followed img b (Unmatched i) hasDefault = decided (leadAt img b i) false (defaultOf img b hasDefault)
+abbrev pub byReference : List ℕ → View → Searched → Bool → Choice
+byReference img b (Matched i) hasDefault = decided (leadAt img b i) true (defaultOf img b hasDefault)
+byReference img b (Unmatched i) hasDefault = decided (leadAt img b i) false (defaultOf img b hasDefault)
 
 -- value to text, and range to text: text is left unchanged, and so is a value of kind "other"
 abbrev pub chosenKey : List ℕ → View → Taken → Choice
-chosenKey img b (took.Number x whole) = followed img b (keySearch (values img (b .firstval) (b .valcount)) x) false
+chosenKey img b (took.Number x whole) = byReference img b (keySearch (values img (b .firstval) (b .valcount)) x) false
 chosenKey img b took.NoNumber = Done plain.Unchanged
 
 abbrev pub chosenRange : List ℕ → View → Taken → Choice
-chosenRange img b (took.Number x whole) = followed img b (rangeSearch whole (values img (b .firstval) (b .valcount)) x) true
+chosenRange img b (took.Number x whole) = byReference img b (rangeSearch whole (values img (b .firstval) (b .valcount)) x) true
 chosenRange img b took.NoNumber = Done plain.Unchanged
 
 -- what is chosen lies in the image

@@ -1,9 +1,9 @@
 -- The rules that ask no other block (document 01, "Applying"): types 0 to 6, 9 and 10, and unknown. Assumes nothing: these are definitions.
-use Prim.Native.Nat.{ℕ, _≤_}
+use Prim.Native.Nat.{ℕ}
 use mathlib.Core.Bool.{Bool, true, false}
 use mathlib.Core.List.{List}
-use lib.ListN.{length}
 use lib.Ieee.{Float}
+use Rattle.words.specs.Words.{PartIn}
 use Rattle.common.specs.declared.types.ConversionType.{ConversionType}
 use Rattle.common.specs.declared.types.ConversionType.the-variants as kind
 use Rattle.blocks.specs.View.{valueIn}
@@ -39,16 +39,16 @@ byNumber kind.BitGroups whole vs x = Unchanged
 byNumber (kind.Unknown n) whole vs x = Unchanged
 
 -- text is left unchanged, and so is a value of kind "other"
-abbrev pub numbered : ConversionType → List Float → Taken → Plain
-numbered k vs (took.Number x whole) = byNumber k whole vs x
-numbered k vs took.NoNumber = Unchanged
+abbrev pub byTaken : ConversionType → List Float → Taken → Plain
+byTaken k vs (took.Number x whole) = byNumber k whole vs x
+byTaken k vs took.NoNumber = Unchanged
 
-abbrev pub isText : Value → Bool
-isText (given.Unsigned n) = false
-isText (given.Signed n) = false
-isText (given.Float x) = false
-isText given.Text = true
-isText given.Other = false
+abbrev pub isTextValue : Value → Bool
+isTextValue (given.Unsigned n) = false
+isTextValue (given.Signed n) = false
+isTextValue (given.Float x) = false
+isTextValue given.Text = true
+isTextValue given.Other = false
 
 -- the value at an index, or Unknown if there is none such
 abbrev pub orUnknown : Found → Plain
@@ -75,7 +75,7 @@ textToText img b t false = Unchanged
 -- the run of a text lies in the image
 abbrev pub PlainIn : List ℕ → Plain → Type 0
 PlainIn img (Number x) = Unit {0}
-PlainIn img (Words from to) = (from ≤ to) × (to ≤ length img)
+PlainIn img (Words from to) = PartIn img from to
 PlainIn img Unchanged = Unit {0}
 PlainIn img Unknown = Unit {0}
 PlainIn img Formula = Unit {0}

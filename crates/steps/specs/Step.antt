@@ -15,7 +15,7 @@ use Rattle.rules.specs.Numbers.{taken}
 use Rattle.rules.specs.declared.number.Value.{Value}
 use Rattle.steps.specs.Mode.{bitsOf}
 use Rattle.steps.specs.Fits.{Fits}
-use Rattle.steps.specs.Plain.{numbered, isText, textToValue, textToText, PlainIn}
+use Rattle.steps.specs.Plain.{byTaken, isTextValue, textToValue, textToText, PlainIn}
 use Rattle.steps.specs.declared.mode.Mode.{Mode}
 use Rattle.steps.specs.declared.mode.Edition.{Edition}
 use Rattle.steps.specs.declared.mode.Edition.the-variants.{Mdf410, Mdf420}
@@ -38,19 +38,19 @@ grouped mode b v = groupedIn (mode .edition) b (bitsOf mode v)
 
 -- by its type: the types that go on to other blocks, and those that do not
 abbrev pub typed : Mode → List ℕ → List ℕ → View → Value → ConversionType → Step
-typed mode img t b v kind.Identity = Done (numbered kind.Identity (values img (b .firstval) (b .valcount)) (taken v))
-typed mode img t b v kind.Linear = Done (numbered kind.Linear (values img (b .firstval) (b .valcount)) (taken v))
-typed mode img t b v kind.Rational = Done (numbered kind.Rational (values img (b .firstval) (b .valcount)) (taken v))
-typed mode img t b v kind.Formula = Done (numbered kind.Formula (values img (b .firstval) (b .valcount)) (taken v))
-typed mode img t b v kind.TableInterpolated = Done (numbered kind.TableInterpolated (values img (b .firstval) (b .valcount)) (taken v))
-typed mode img t b v kind.TableNearest = Done (numbered kind.TableNearest (values img (b .firstval) (b .valcount)) (taken v))
-typed mode img t b v kind.RangeToValue = Done (numbered kind.RangeToValue (values img (b .firstval) (b .valcount)) (taken v))
+typed mode img t b v kind.Identity = Done (byTaken kind.Identity (values img (b .firstval) (b .valcount)) (taken v))
+typed mode img t b v kind.Linear = Done (byTaken kind.Linear (values img (b .firstval) (b .valcount)) (taken v))
+typed mode img t b v kind.Rational = Done (byTaken kind.Rational (values img (b .firstval) (b .valcount)) (taken v))
+typed mode img t b v kind.Formula = Done (byTaken kind.Formula (values img (b .firstval) (b .valcount)) (taken v))
+typed mode img t b v kind.TableInterpolated = Done (byTaken kind.TableInterpolated (values img (b .firstval) (b .valcount)) (taken v))
+typed mode img t b v kind.TableNearest = Done (byTaken kind.TableNearest (values img (b .firstval) (b .valcount)) (taken v))
+typed mode img t b v kind.RangeToValue = Done (byTaken kind.RangeToValue (values img (b .firstval) (b .valcount)) (taken v))
 typed mode img t b v kind.ValueToText = ByKey b
 typed mode img t b v kind.RangeToText = ByRange b
-typed mode img t b v kind.TextToValue = Done (textToValue img b t (isText v))
-typed mode img t b v kind.TextToText = Done (textToText img b t (isText v))
+typed mode img t b v kind.TextToValue = Done (textToValue img b t (isTextValue v))
+typed mode img t b v kind.TextToText = Done (textToText img b t (isTextValue v))
 typed mode img t b v kind.BitGroups = grouped mode b v
-typed mode img t b v (kind.Unknown n) = Done (numbered (kind.Unknown n) (values img (b .firstval) (b .valcount)) (taken v))
+typed mode img t b v (kind.Unknown n) = Done (byTaken (kind.Unknown n) (values img (b .firstval) (b .valcount)) (taken v))
 
 -- a block that the image cuts off cannot be opened
 abbrev pub unlessCut : Mode → List ℕ → List ℕ → Value → Seen → Step

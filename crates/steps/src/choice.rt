@@ -12,9 +12,9 @@ use rules::search::search_key;
 use rules::search::search_range;
 ghost use mathlib.Core.Path.{_≡_};
 ghost use Rattle.rules.specs.Numbers.{taken};
-ghost use Rattle.steps.specs.Choice.{defaultOf, decided, followed, chosenKey, chosenRange, ChoiceIn};
+ghost use Rattle.steps.specs.Choice.{defaultOf, decided, byReference, chosenKey, chosenRange, ChoiceIn};
 ghost use Rattle.steps.specs.Fits.{Fits};
-ghost use Rattle.leads.specs.Lead.{Inside};
+ghost use Rattle.leads.specs.Lead.{LeadIn};
 
 // What the deciding reference leads to: a nested block, which gets the original value, or an answer.
 pub enum Choice {
@@ -39,7 +39,7 @@ fn default_of(image: &[u8], b: View, fallback: bool) -> Choice
 }
 
 fn decide(image: &[u8], b: View, lead: Lead, matched: bool, fallback: bool) -> Choice
-    requires { ⌜ Inside (now image) lead ⌝ }
+    requires { ⌜ LeadIn (now image) lead ⌝ }
     ensures { λ r. ⌜ (r ≡ decided lead matched (defaultOf (now (image .entry)) b fallback)) × ChoiceIn (now (image .entry)) r ⌝ }
 {
     match lead {
@@ -57,7 +57,7 @@ fn decide(image: &[u8], b: View, lead: Lead, matched: bool, fallback: bool) -> C
 
 // The reference at the index decides.
 fn follow(image: &[u8], b: View, s: Searched, fallback: bool) -> Choice
-    ensures { λ r. ⌜ (r ≡ followed (now (image .entry)) b s fallback) × ChoiceIn (now (image .entry)) r ⌝ }
+    ensures { λ r. ⌜ (r ≡ byReference (now (image .entry)) b s fallback) × ChoiceIn (now (image .entry)) r ⌝ }
 {
     match s {
         Searched::Matched(i) => decide(image, b, lead_at(image, b, i as u64), true, fallback),

@@ -17,7 +17,7 @@ ghost use mathlib.Core.Path.{_≡_};
 ghost use lib.ListN.{length};
 ghost use Rattle.rules.specs.Numbers.{taken};
 ghost use Rattle.rules.specs.Values.{values};
-ghost use Rattle.steps.specs.Plain.{byNumber, numbered, isText, textToValue, textToText, PlainIn};
+ghost use Rattle.steps.specs.Plain.{byNumber, byTaken, isTextValue, textToValue, textToText, PlainIn};
 ghost use Rattle.steps.specs.Fits.{Fits};
 
 // An answer that needs no other block. `Formula` and `Broken` stop the application: a formula is met, or a block cannot be opened.
@@ -52,7 +52,7 @@ fn by_number(image: &[u8], b: View, kind: ConversionType, whole: bool, x: f64) -
 // Types 0 to 6 and unknown: only a number is changed.
 pub fn number_rule(image: &[u8], b: View, kind: ConversionType, v: Value) -> Plain
     requires { ⌜ Fits (now image) b ⌝ }
-    ensures { λ r. ⌜ r ≡ numbered kind (values (now (image .entry)) (b .firstval) (b .valcount)) (taken v) ⌝ }
+    ensures { λ r. ⌜ r ≡ byTaken kind (values (now (image .entry)) (b .firstval) (b .valcount)) (taken v) ⌝ }
 {
     match take(v) {
         Taken::Number(x, whole) => by_number(image, b, kind, whole, x),
@@ -61,7 +61,7 @@ pub fn number_rule(image: &[u8], b: View, kind: ConversionType, v: Value) -> Pla
 }
 
 fn is_text(v: Value) -> bool
-    ensures { λ r. ⌜ r ≡ isText v ⌝ }
+    ensures { λ r. ⌜ r ≡ isTextValue v ⌝ }
 {
     match v {
         Value::Text => true,
@@ -72,7 +72,7 @@ fn is_text(v: Value) -> bool
 // Type 9: the first reference whose text equals the input gives its value.
 pub fn text_to_value(image: &[u8], b: View, v: Value, text: &[u8]) -> Plain
     requires { ⌜ Fits (now image) b ⌝ }
-    ensures { λ r. ⌜ r ≡ textToValue (now (image .entry)) b (now (text .entry)) (isText v) ⌝ }
+    ensures { λ r. ⌜ r ≡ textToValue (now (image .entry)) b (now (text .entry)) (isTextValue v) ⌝ }
 {
     if is_text(v) {
         match b.value(image, value_key(image, b, text)) {
@@ -87,7 +87,7 @@ pub fn text_to_value(image: &[u8], b: View, v: Value, text: &[u8]) -> Plain
 // Type 10: the chosen output text, or the input as it is.
 pub fn text_to_text(image: &[u8], b: View, v: Value, text: &[u8]) -> Plain
     requires { ⌜ Fits (now image) b ⌝ }
-    ensures { λ r. ⌜ (r ≡ textToText (now (image .entry)) b (now (text .entry)) (isText v)) × PlainIn (now (image .entry)) r ⌝ }
+    ensures { λ r. ⌜ (r ≡ textToText (now (image .entry)) b (now (text .entry)) (isTextValue v)) × PlainIn (now (image .entry)) r ⌝ }
 {
     if is_text(v) {
         match translate(image, b, text) {

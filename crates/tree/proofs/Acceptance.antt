@@ -7,6 +7,7 @@ use Prim.Native.Nat.{ℕ, zero, suc, _+_, _-_, _≤_, _<_}
 use native.Mathlib.Omega.{arith}
 use lib.Dec.{eqb, leb}
 use lib.ListN.{length, length-append}
+use Rattle.words.proofs.Clash.{clash}
 use Rattle.common.specs.Header.{inside, isConversion}
 use Rattle.common.specs.declared.refusal.Refusal.the-variants.{Outside, NotConversion, Short}
 use Rattle.common.proofs.Headers.{inside-fits}
@@ -28,7 +29,7 @@ use Rattle.tree.proofs.Checks.{Rooted, walked, checked-walk}
 both : (e : End) (vs : List ℕ) (w : Walk) → onward e vs w .ending ≡ complete
     → (e ≡ complete) × (w .ending ≡ complete) × (length (onward e vs w .visits) ≡ length vs + length (w .visits))
 both complete vs w p = (refl, p, length-append vs (w .visits))
-both (fault f) vs w p = let z : _≡_ {A = ℕ} 0 1 = cc in absurd (omega arith)
+both (fault f) vs w p = clash cc
 
 -- where a reference leads, with the path left out
 leads : (img path : List ℕ) (r : ℕ) (x : Link) → classed img path r ≡ x
@@ -52,8 +53,8 @@ module _ (f : ℕ → Walk) (img path : List ℕ) (g : ℕ → ℕ) (P : ℕ →
       → (length (andThen (followed f x r) w .visits) ≡ cond (leadsIn img r) (g r) 0 + n) × (leadsIn img r ≡ true → P r) × (w .ending ≡ complete)
   one r w n Nowhere e h p =
       let out = leads img path r Nowhere e .0 refl in
-      (rw out (omega (arith, h p)), (λ inward. absurd (let z : true ≡ false = cc in let q : _≡_ {A = ℕ} 0 1 = cc in omega arith)), p)
-  one r w n Back e h p = let z : _≡_ {A = ℕ} 0 1 = cc in absurd (omega arith)
+      (rw out (omega (arith, h p)), (λ inward. absurd (let z : true ≡ false = cc in clash cc)), p)
+  one r w n Back e h p = clash cc
   one r w n Nested e h p =
       let b = both (f r .ending) (f r .visits) w p in
       let inward = leads img path r Nested e .1 refl in
@@ -78,7 +79,7 @@ opens img a g = go (leb (blockEnd img a) (length img))
         → (cond b (Whole (blockAt img a)) (Refused (Short a)) ≡ Whole (blockAt img a))
         × (unlessShort a (cond b (Whole (blockAt img a)) (Refused (Short a))) g ≡ g (blockAt img a))
     go true p = (refl, refl)
-    go false p = let z : _≡_ {A = ℕ} 0 1 = cc in absurd (omega arith)
+    go false p = clash cc
 
 -- a complete walk of a block has the tree's size, and the tree is sound
 pub tree : (d : ℕ) (img path : List ℕ) (a : ℕ) → walk d img path a .ending ≡ complete
@@ -87,8 +88,7 @@ unfolding walk size Sound
 tree zero img path a p =
     let o = opens img a (λ b. stopped (deep a)) p in
     let q : fault (deep a) ≡ complete = ap (λ (w : Walk). w .ending) (sym (o .1)) ∙ p in
-    let z : _≡_ {A = ℕ} 0 1 = cc in
-    absurd (omega arith)
+    clash cc
 tree (suc d) img path a p =
     let inner = path ++ (a ∷ []) in
     let links : Block → Walk = λ b. walkLinks (walk d img inner) (classed img inner) (references img b) in
@@ -113,10 +113,10 @@ module _ (img : List ℕ) (a l n : ℕ) (e : checked img a l ≡ Accepted n) whe
   the-walk = walked img a l (Accepted n) (λ q. no-outside q) (λ q. no-other q) e
     where
       no-outside : Unsound (Outside a) ≡ Accepted n → ⊥
-      no-outside q = let z : _≡_ {A = ℕ} 0 1 = cc in omega arith
+      no-outside q = clash cc
 
       no-other : Unsound (NotConversion a) ≡ Accepted n → ⊥
-      no-other q = let z : _≡_ {A = ℕ} 0 1 = cc in omega arith
+      no-other q = clash cc
 
   pub acceptance : Acceptance img a l n
   unfolding walk

@@ -10,8 +10,9 @@ use borrow.Author.Tests.{ltb-true, ltb-false, lt-ltb, le-ltb}
 use lib.Dec.{ltb}
 use lib.ListN.{length, getD, length-append, List·getD-append}
 use lib.Seq.{getD-append-add}
+use Rattle.words.proofs.Clash.{clash}
 use Rattle.common.specs.declared.refusal.Refusal.the-variants.{Limit}
-use Rattle.tree.specs.Walk.{Walk, Fault, End, complete, fault, nothing, stopped, visit, onward, andThen, refusalOf, ended, answer}
+use Rattle.tree.specs.Walk.{Walk, Fault, End, complete, fault, nothing, stopped, visit, onward, andThen, faultRefusal, ended, answer}
 use Rattle.tree.specs.declared.Checked.{Checked}
 use Rattle.tree.specs.declared.Checked.the-variants.{Accepted, Unsound}
 
@@ -40,7 +41,7 @@ module _ (l v : ℕ) (w : Walk) where
 pub answer-nothing : (l v : ℕ) → answer l v nothing ≡ Accepted v
 answer-nothing l v = under l v nothing (omega arith) ∙ ap Accepted (add-zero v)
 
-pub answer-stopped : (l v : ℕ) (f : Fault) → answer l v (stopped f) ≡ Unsound (refusalOf f)
+pub answer-stopped : (l v : ℕ) (f : Fault) → answer l v (stopped f) ≡ Unsound (faultRefusal f)
 answer-stopped l v f = under l v (stopped f) (omega arith)
 
 -- the limit is used up
@@ -110,13 +111,13 @@ answer-then l v u w h =
 -- ---- an accepted walk: it is complete, it fits the limit, and its count is that of its visits
 ended-accepted : (n m : ℕ) (e : End) → ended n e ≡ Accepted m → (e ≡ complete) × (n ≡ m)
 ended-accepted n m complete p = (refl, (cc))
-ended-accepted n m (fault f) p = let z : _≡_ {A = ℕ} 0 1 = cc in absurd (omega arith)
+ended-accepted n m (fault f) p = clash cc
 
 pub accepted : (l v : ℕ) (w : Walk) (n : ℕ) → answer l v w ≡ Accepted n
     → (length (w .visits) ≤ l - v) × (w .ending ≡ complete) × (v + length (w .visits) ≡ n)
 accepted l v w n p =
     ⊎-elim
-    (λ lt. let q = over l v w lt in let z : _≡_ {A = ℕ} 0 1 = cc in absurd (omega arith))
+    (λ lt. let q = over l v w lt in clash cc)
     (λ le. let e = ended-accepted (v + length (w .visits)) n (w .ending) (sym (under l v w le) ∙ p) in (le, e .0, e .1))
     (lt-or-le (l - v) (length (w .visits)))
 

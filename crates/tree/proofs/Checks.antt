@@ -7,6 +7,7 @@ use mathlib.Core.List.{List, [], _∷_}
 use Prim.Native.Nat.{ℕ, zero, suc, _+_, _-_, _≤_, _<_}
 use native.Mathlib.Omega.{arith}
 use lib.ListN.{length, getD}
+use Rattle.words.proofs.Clash.{clash}
 use Rattle.common.specs.Header.{inside, isConversion}
 use Rattle.common.specs.declared.refusal.Refusal.{Refusal}
 use Rattle.common.specs.declared.refusal.Refusal.the-variants.{Outside, NotConversion, Limit}
@@ -48,10 +49,10 @@ module _ (img : List ℕ) (a l : ℕ) where
 -- ---- the limit, exactly
 -- a walk's own ending is no Limit
 not-limit : (n x : ℕ) (e : End) → ended n e ≡ Unsound (Limit x) → ⊥
-not-limit n x complete p = let z : _≡_ {A = ℕ} 0 1 = cc in omega arith
-not-limit n x (fault (short b)) p = let z : _≡_ {A = ℕ} 0 1 = cc in omega arith
-not-limit n x (fault (deep b)) p = let z : _≡_ {A = ℕ} 0 1 = cc in omega arith
-not-limit n x (fault (loop b)) p = let z : _≡_ {A = ℕ} 0 1 = cc in omega arith
+not-limit n x complete p = clash cc
+not-limit n x (fault (short b)) p = clash cc
+not-limit n x (fault (deep b)) p = clash cc
+not-limit n x (fault (loop b)) p = clash cc
 
 module _ (img : List ℕ) (a l : ℕ) (root : Rooted img a l) where
   -- the trace is longer than the limit: 3 at the visit that would be one too many
@@ -84,7 +85,7 @@ limit-only img a l x p =
     (lt-or-le l (length (trace img a .visits)))
   where
     clash-outside : Unsound (Outside a) ≡ Unsound (Limit x) → ⊥
-    clash-outside q = let z : _≡_ {A = ℕ} 0 1 = cc in omega arith
+    clash-outside q = clash cc
 
     clash-other : Unsound (NotConversion a) ≡ Unsound (Limit x) → ⊥
-    clash-other q = let z : _≡_ {A = ℕ} 0 1 = cc in omega arith
+    clash-other q = clash cc

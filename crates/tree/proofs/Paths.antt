@@ -10,6 +10,7 @@ use borrow.Author.Tests.{eq-eqb, ne-eqb, eqb-true, le-leb}
 use lib.Dec.{eqb}
 use lib.ListN.{length, getD, set, take, drop, drop-of-length-le}
 use lib.Seq.{drop-cons, getD-take, length-take-le, take-take, take-set-le, take-suc-set}
+use Rattle.words.proofs.Clash.{clash}
 use Rattle.common.specs.Header.{inside, isConversion}
 use Rattle.common.proofs.Headers.{inside-fits}
 use Rattle.tree.specs.Follow.{Standing}
@@ -55,10 +56,10 @@ nested-fits img path r e = go (eqb r 0) (on r path) (inside img r) refl e
   where
     go : (x y z : Bool) → inside img r ≡ z
         → cond x Nowhere (cond y Back (cond z (cond (isConversion img r) Nested Nowhere) Nowhere)) ≡ Nested → r + 24 ≤ length img
-    go true y z t p = let q : _≡_ {A = ℕ} 0 1 = cc in absurd (omega arith)
-    go false true z t p = let q : _≡_ {A = ℕ} 0 1 = cc in absurd (omega arith)
+    go true y z t p = clash cc
+    go false true z t p = clash cc
     go false false true t p = inside-fits img r t
-    go false false false t p = let q : _≡_ {A = ℕ} 0 1 = cc in absurd (omega arith)
+    go false false false t p = clash cc
 
 -- and that header is a conversion's
 pub nested-conversion : (img path : List ℕ) (r : ℕ) → classed img path r ≡ Nested → isConversion img r ≡ true
@@ -66,15 +67,15 @@ unfolding classed
 nested-conversion img path r e = go (eqb r 0) (on r path) (inside img r) (isConversion img r) e
   where
     go : (x y z w : Bool) → cond x Nowhere (cond y Back (cond z (cond w Nested Nowhere) Nowhere)) ≡ Nested → w ≡ true
-    go true y z w p = let q : _≡_ {A = ℕ} 0 1 = cc in absurd (omega arith)
-    go false true z w p = let q : _≡_ {A = ℕ} 0 1 = cc in absurd (omega arith)
+    go true y z w p = clash cc
+    go false true z w p = clash cc
     go false false true true p = refl
-    go false false true false p = let q : _≡_ {A = ℕ} 0 1 = cc in absurd (omega arith)
-    go false false false w p = let q : _≡_ {A = ℕ} 0 1 = cc in absurd (omega arith)
+    go false false true false p = clash cc
+    go false false false w p = clash cc
 
 -- ---- each address on the path is a ##CC block's
 no-both : {b : Bool} → b ≡ true → b ≡ false → ⊥
-no-both h k = let z : true ≡ false = sym h ∙ k in let q : _≡_ {A = ℕ} 0 1 = cc in omega arith
+no-both h k = let z : true ≡ false = sym h ∙ k in clash cc
 
 -- an address that is none is not on it
 pub off-path : (img path : List ℕ) (r : ℕ) → Standing img path → (inside img r ≡ true → isConversion img r ≡ true → ⊥) → on r path ≡ false
@@ -92,7 +93,7 @@ not-conversion img r h k l = no-both l h
 
 pub standing-none : (img : List ℕ) → Standing img []
 unfolding on
-standing-none img r e = let q : _≡_ {A = ℕ} 0 1 = cc in absurd (omega arith)
+standing-none img r e = clash cc
 
 -- one block more
 on-more : (path : List ℕ) (a r : ℕ) → on r (path ++ (a ∷ [])) ≡ true → (on r path ≡ true) ⊎ (a ≡ r)

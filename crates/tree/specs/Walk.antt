@@ -93,15 +93,15 @@ abbrev pub trace : List ℕ → ℕ → Walk
 trace img a = walk 21 img [] a
 
 -- ---- what a limited walk answers
-abbrev pub refusalOf : Fault → Refusal
-refusalOf (short a) = Short a
-refusalOf (deep a) = Deep a
-refusalOf (loop a) = Loop a
+abbrev pub faultRefusal : Fault → Refusal
+faultRefusal (short a) = Short a
+faultRefusal (deep a) = Deep a
+faultRefusal (loop a) = Loop a
 
 -- an accepted walk answers its count
 abbrev pub ended : ℕ → End → Checked
 ended n complete = Accepted n
-ended n (fault f) = Unsound (refusalOf f)
+ended n (fault f) = Unsound (faultRefusal f)
 
 -- after v visits, with the limit l: 3 at the visit that would be one too many, if the walk begins so many, else its own ending
 unfoldable pub answer : ℕ → ℕ → Walk → Checked

@@ -1,8 +1,8 @@
--- Little-endian numbers in a list of bytes (document 01, "Bytes of a block": "All numbers are little-endian"), and bytes put into a list.
--- Assumes nothing: these are definitions.
-use Prim.Native.Nat.{ℕ, zero, suc, _+_, _*_, _/_, _%_}
+-- Little-endian numbers in a list of bytes (document 01, "Bytes of a block": "All numbers are little-endian"), a part of a list, and bytes put into
+-- one. Assumes nothing: these are definitions.
+use Prim.Native.Nat.{ℕ, zero, suc, _+_, _-_, _*_, _/_, _%_, _≤_}
 use mathlib.Core.List.{List, [], _∷_, _++_}
-use lib.ListN.{getD, set}
+use lib.ListN.{length, getD, set, take, drop}
 use lib.Ieee.{Float, binary64, ofBits}
 
 -- the number that stands at a place: each is made of its two halves
@@ -38,6 +38,13 @@ bytes8 v = bytes4 (v % 4294967296) ++ bytes4 (v / 4294967296)
 unfoldable pub links : List ℕ → List ℕ
 links [] = []
 links (v ∷ vs) = bytes8 v ++ links vs
+
+-- the part of a list from a place up to another, and that it lies in the list
+abbrev pub part : List ℕ → ℕ → ℕ → List ℕ
+part s from to = take (to - from) (drop from s)
+
+abbrev pub PartIn : List ℕ → ℕ → ℕ → Type 0
+PartIn s from to = (from ≤ to) × (to ≤ length s)
 
 -- the list with bs put in from a place on; what passes its end is lost
 unfoldable pub put : List ℕ → ℕ → List ℕ → List ℕ

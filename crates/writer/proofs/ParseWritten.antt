@@ -17,7 +17,7 @@ use Rattle.floats.specs.Kept.{keptBits}
 use Rattle.common.specs.Header.{headerAt, inside, isConversion, conversionId}
 use Rattle.blocks.specs.Block.{fixedAt, refCount, fieldsPlace, fieldsAt, valCount, hasRange, isRanged, rangeSize, rangeAt, valuesPlace, blockEnd, blockAt, opened, parsed}
 use Rattle.blocks.specs.Make.{fixedOf}
-use Rattle.writer.specs.Write.{writeSize, headerBytes, fixedBytes, fieldBytes, rangeBytes, frontBytes, blockBytes, answerOf, outputOf, Outcome, wrote, writing}
+use Rattle.writer.specs.Write.{writeSize, headerBytes, fixedBytes, fieldBytes, rangeBytes, frontBytes, blockBytes, writeAnswer, outputHolds, WriteCall, writeCall, writing}
 use Rattle.writer.specs.Stored.{storedFields, storedRange, stored, Sized}
 use Rattle.writer.proofs.Writing.{length-range, length-block, answer-fits}
 use Rattle.common.specs.declared.header.Header.{Header}
@@ -212,12 +212,12 @@ module _ (front rest : List ℕ) (b : Block) (refs values : List ℕ) where
 
 -- ---- the same, said of the writer's own answer: where it wrote, the output parses at 0
 pub output-parses : (b : Block) (refs values out : List ℕ) (k : ℕ) (img : List ℕ) → Sized b
-    → writeSize (b .ranged) (length refs) (length values) < 2 ^ 64 → writing b refs values out ≡ wrote (Bytes k) img
+    → writeSize (b .ranged) (length refs) (length values) < 2 ^ 64 → writing b refs values out ≡ writeCall (Bytes k) img
     → parsed img 0 ≡ Whole (stored 0 b (length refs) (length values))
 unfolding writing
 output-parses b refs values out k img sized fits e =
-    let says : answerOf (b .ranged) (length refs) (length values) (length out) ≡ Bytes k = ap (λ (o : Outcome). o .says) e in
-    let holds : outputOf (Bytes k) (blockBytes b refs values) out ≡ img =
-    ap (λ (w : Written). outputOf w (blockBytes b refs values) out) (sym says) ∙ ap (λ (o : Outcome). o .holds) e in
+    let says : writeAnswer (b .ranged) (length refs) (length values) (length out) ≡ Bytes k = ap (λ (o : WriteCall). o .result) e in
+    let holds : outputHolds (Bytes k) (blockBytes b refs values) out ≡ img =
+    ap (λ (w : Written). outputHolds w (blockBytes b refs values) out) (sym says) ∙ ap (λ (o : WriteCall). o .output) e in
     let fit = answer-fits (b .ranged) (length refs) (length values) (length out) k says in
     rw (sym holds) (parse-written [] (drop k out) b refs values sized (fit .few) fits)

@@ -7,10 +7,11 @@ use native.Mathlib.Omega.{arith}
 use borrow.Author.Tests.{lt-ltb, le-ltb, ltb-false}
 use lib.Dec.{ltb}
 use lib.ListN as ListN
+use Rattle.words.proofs.Clash.{clash}
 use Rattle.words.specs.Words.{put, links}
 use Rattle.words.proofs.Laws.{put-append, five-puts, put-front, length-links}
 use Rattle.blocks.specs.Block.{rangeSize}
-use Rattle.writer.specs.Write.{writeSize, headerBytes, fixedBytes, fieldBytes, rangeBytes, frontBytes, blockBytes, answerOf, wrote, writing}
+use Rattle.writer.specs.Write.{writeSize, headerBytes, fixedBytes, fieldBytes, rangeBytes, frontBytes, blockBytes, writeAnswer, writeCall, writing}
 use Rattle.blocks.specs.declared.Block.{Block}
 use Rattle.common.specs.declared.refusal.Refusal.{Refusal}
 use Rattle.common.specs.declared.refusal.Refusal.the-variants.{Room, Count}
@@ -59,16 +60,16 @@ length-block b refs values =
 
 -- ---- the answer
 module _ (ranged : Bool) (refs values room : ℕ) where
-  pub too-many : 65535 < values → answerOf ranged refs values room ≡ Unwritten Count
-  unfolding answerOf
+  pub too-many : 65535 < values → writeAnswer ranged refs values room ≡ Unwritten Count
+  unfolding writeAnswer
   too-many h = simp (lt-ltb _ _ h)
 
-  pub no-room : values ≤ 65535 → room < writeSize ranged refs values → answerOf ranged refs values room ≡ Unwritten Room
-  unfolding answerOf
+  pub no-room : values ≤ 65535 → room < writeSize ranged refs values → writeAnswer ranged refs values room ≡ Unwritten Room
+  unfolding writeAnswer
   no-room h k = simp (le-ltb _ _ h, lt-ltb _ _ k)
 
-  pub enough : values ≤ 65535 → writeSize ranged refs values ≤ room → answerOf ranged refs values room ≡ Bytes (writeSize ranged refs values)
-  unfolding answerOf
+  pub enough : values ≤ 65535 → writeSize ranged refs values ≤ room → writeAnswer ranged refs values room ≡ Bytes (writeSize ranged refs values)
+  unfolding writeAnswer
   enough h k = simp (le-ltb _ _ h, le-ltb _ _ k)
 
   -- what an answer of n bytes tells
@@ -77,8 +78,8 @@ module _ (ranged : Bool) (refs values room : ℕ) where
     pub sized : n ≡ writeSize ranged refs values
     pub room-enough : n ≤ room
 
-  pub answer-fits : (n : ℕ) → answerOf ranged refs values room ≡ Bytes n → Fits n
-  unfolding answerOf
+  pub answer-fits : (n : ℕ) → writeAnswer ranged refs values room ≡ Bytes n → Fits n
+  unfolding writeAnswer
   answer-fits n = go (ltb 65535 values) (ltb room (writeSize ranged refs values)) refl refl
     where
       go : (x y : Bool) → ltb 65535 values ≡ x → ltb room (writeSize ranged refs values) ≡ y
@@ -86,24 +87,24 @@ module _ (ranged : Bool) (refs values room : ℕ) where
       go false false p q e =
           let same : n ≡ writeSize ranged refs values = cc in
           record { few = ltb-false _ _ p; sized = same; room-enough = omega (arith, ltb-false room (writeSize ranged refs values) q) }
-      go false true p q e = let z : _≡_ {A = ℕ} 0 1 = cc in absurd (omega arith)
-      go true y p q e = let z : _≡_ {A = ℕ} 0 1 = cc in absurd (omega arith)
+      go false true p q e = clash cc
+      go true y p q e = clash cc
 
 -- ---- the output; both writers cite these, for k values that are spelled by `values`
 module _ (b : Block) (refs values out : List ℕ) (k : ℕ) (counted : k ≡ ListN.length values) (says : Written)
-    (answered : says ≡ answerOf (b .ranged) (ListN.length refs) k (ListN.length out)) where
-  said : says ≡ answerOf (b .ranged) (ListN.length refs) (ListN.length values) (ListN.length out)
-  said = answered ∙ ap (λ (m : ℕ). answerOf (b .ranged) (ListN.length refs) m (ListN.length out)) counted
+    (answered : says ≡ writeAnswer (b .ranged) (ListN.length refs) k (ListN.length out)) where
+  said : says ≡ writeAnswer (b .ranged) (ListN.length refs) (ListN.length values) (ListN.length out)
+  said = answered ∙ ap (λ (m : ℕ). writeAnswer (b .ranged) (ListN.length refs) m (ListN.length out)) counted
 
   -- a refusal
-  pub untouched : (r : Refusal) → says ≡ Unwritten r → wrote (Unwritten r) out ≡ writing b refs values out
+  pub untouched : (r : Refusal) → says ≡ Unwritten r → writeCall (Unwritten r) out ≡ writing b refs values out
   unfolding writing
   untouched r e = rw (sym said, e)
 
   -- the front from byte 0 on, and the values behind it
   pub all-written : (n at : ℕ) (front last : List ℕ) → says ≡ Bytes n
       → at ≡ 64 + 8 * ListN.length refs + rangeSize (b .ranged) → front ≡ put out 0 (frontBytes b refs k n) → last ≡ put front at (links values)
-      → wrote (Bytes n) last ≡ writing b refs values out
+      → writeCall (Bytes n) last ≡ writing b refs values out
   unfolding writing blockBytes
   all-written n at front last e p f g =
       let fit = answer-fits (b .ranged) (ListN.length refs) (ListN.length values) (ListN.length out) n (sym said ∙ e) in
@@ -114,4 +115,4 @@ module _ (b : Block) (refs values out : List ℕ) (k : ℕ) (counted : k ≡ Lis
       let long : ListN.length (first ++ links values) ≡ n = length-block b refs values ∙ sym (fit .sized) in
       let shown : put out 0 (first ++ links values) ≡ (first ++ links values) ++ ListN.drop n out =
       put-front out (first ++ links values) (omega arith) ∙ ap (λ (m : ℕ). (first ++ links values) ++ ListN.drop m out) long in
-      rw (sym said, e) (ap (wrote (Bytes n)) (whole ∙ shown))
+      rw (sym said, e) (ap (writeCall (Bytes n)) (whole ∙ shown))

@@ -5,7 +5,7 @@ use mathlib.Core.Bool.{Bool, true, false}
 use lib.Dec.{T}
 use lib.Ieee.{binary64, fits}
 use Rattle.floats.specs.Kept.{keptBits}
-use Rattle.blocks.specs.Block.{rangeSize, noRange, joined}
+use Rattle.blocks.specs.Block.{rangeSize, noRange, recordFrom}
 use Rattle.blocks.specs.Make.{fixedOf}
 use Rattle.writer.specs.Write.{writeSize}
 use Rattle.blocks.specs.declared.Fields.{Fields}
@@ -32,7 +32,7 @@ storedRange b false = noRange
 -- written at a with so many references and values
 unfoldable pub stored : ℕ → Block → ℕ → ℕ → Block
 stored a b refs values =
-    joined
+    recordFrom
     (writeSize (b .ranged) refs values)
     (4 + refs)
     (fixedOf b)

@@ -51,25 +51,25 @@ blockBytes b refs values =
     frontBytes b refs (ListN.length values) (writeSize (b .ranged) (ListN.length refs) (ListN.length values)) ++ links values
 
 -- 9 over 65,535 values, before 8 where the output is too short; else how many bytes are written
-unfoldable pub answerOf : Bool → ℕ → ℕ → ℕ → Written
-answerOf ranged refs values room =
+unfoldable pub writeAnswer : Bool → ℕ → ℕ → ℕ → Written
+writeAnswer ranged refs values room =
     cond (ltb 65535 values) (Unwritten Count)
     (cond (ltb room (writeSize ranged refs values)) (Unwritten Room) (Bytes (writeSize ranged refs values)))
 
 -- a success writes the block from byte 0 and changes nothing after; a refusal leaves the output untouched
-abbrev pub outputOf : Written → List ℕ → List ℕ → List ℕ
-outputOf (Bytes n) block out = block ++ ListN.drop n out
-outputOf (Unwritten r) block out = out
+abbrev pub outputHolds : Written → List ℕ → List ℕ → List ℕ
+outputHolds (Bytes n) block out = block ++ ListN.drop n out
+outputHolds (Unwritten r) block out = out
 
 -- an answer, with what the lent output holds then
-pub record Outcome : Type 0 where
-  pub says : Written
-  pub holds : List ℕ
+pub record WriteCall : Type 0 where
+  pub result : Written
+  pub output : List ℕ
 
-abbrev pub wrote : Written → List ℕ → Outcome
-wrote r out = record { says = r; holds = out }
+abbrev pub writeCall : Written → List ℕ → WriteCall
+writeCall r out = record { result = r; output = out }
 
-unfoldable pub writing : Block → List ℕ → List ℕ → List ℕ → Outcome
+unfoldable pub writing : Block → List ℕ → List ℕ → List ℕ → WriteCall
 writing b refs values out =
-    let says = answerOf (b .ranged) (ListN.length refs) (ListN.length values) (ListN.length out) in
-    wrote says (outputOf says (blockBytes b refs values) out)
+    let says = writeAnswer (b .ranged) (ListN.length refs) (ListN.length values) (ListN.length out) in
+    writeCall says (outputHolds says (blockBytes b refs values) out)

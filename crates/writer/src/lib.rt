@@ -13,7 +13,7 @@ ghost use lib.ListN as ListN;
 ghost use lib.Ieee.{binary64, toBits};
 ghost use Rattle.words.specs.Words.{put};
 ghost use Rattle.blocks.specs.Block.{rangeSize};
-ghost use Rattle.writer.specs.Write.{answerOf, headerBytes, fixedBytes, fieldBytes, rangeBytes, frontBytes, wrote, writing};
+ghost use Rattle.writer.specs.Write.{writeAnswer, headerBytes, fixedBytes, fieldBytes, rangeBytes, frontBytes, writeCall, writing};
 
 // How many bytes were written, or why none were.
 pub enum Written {
@@ -82,7 +82,7 @@ fn put_front(block: Block, out: &mut [u8], refs: &[u64], values: u16, length: u6
 // What the writer answers, worked out before it writes anything: 9 over 65,535 values, else 8 without room, else the block length.
 fn answer(ranged: bool, refs: usize, values: usize, room: usize) -> Written
     requires { ⌜ 8 * refs < 9223372036854775808 ⌝ }
-    ensures { λ r. ⌜ r ≡ answerOf ranged refs values room ⌝ }
+    ensures { λ r. ⌜ r ≡ writeAnswer ranged refs values room ⌝ }
 {
     if VALUES < values {
         return Written::Unwritten(Refusal::Count);
@@ -97,7 +97,7 @@ fn answer(ranged: bool, refs: usize, values: usize, room: usize) -> Written
 
 // The block with these references and these values' 64 bits, from byte 0 of `out` on.
 pub fn write_words(block: Block, refs: &[u64], values: &[u64], out: &mut [u8]) -> Written
-    ensures { λ r. ⌜ wrote r (now (out .exit)) ≡ writing block (now (refs .entry)) (now (values .entry)) (now (out .entry)) ⌝ }
+    ensures { λ r. ⌜ writeCall r (now (out .exit)) ≡ writing block (now (refs .entry)) (now (values .entry)) (now (out .entry)) ⌝ }
 {
     let says = answer(block.ranged, refs.len(), values.len(), out.len());
     match says {
@@ -112,7 +112,7 @@ pub fn write_words(block: Block, refs: &[u64], values: &[u64], out: &mut [u8]) -
 
 // The same with the values as floats, each written by its bits.
 pub fn write(block: Block, refs: &[u64], values: &[f64], out: &mut [u8]) -> Written
-    ensures { λ r. ⌜ wrote r (now (out .exit)) ≡ writing block (now (refs .entry)) (map (toBits binary64) (now (values .entry))) (now (out .entry)) ⌝ }
+    ensures { λ r. ⌜ writeCall r (now (out .exit)) ≡ writing block (now (refs .entry)) (map (toBits binary64) (now (values .entry))) (now (out .entry)) ⌝ }
 {
     let says = answer(block.ranged, refs.len(), values.len(), out.len());
     match says {

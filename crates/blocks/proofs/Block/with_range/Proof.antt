@@ -2,7 +2,7 @@
 use mathlib.Core.Path.{_≡_, ap, _∙_}
 use mathlib.Core.Bool.{true}
 use Prim.Native.Nat.{ℕ}
-use Rattle.blocks.specs.Block.{joined}
+use Rattle.blocks.specs.Block.{recordFrom}
 use Rattle.blocks.specs.Make.{fixedOf, fieldsOf}
 use Rattle.blocks.specs.declared.Block.{Block}
 use borrow.Author.Needs.{needs}
@@ -21,7 +21,7 @@ returns c =
     let b = a .self in
     let made : ℕ → ℕ → Block =
     λ low high.
-    joined (b .length) (b .links) (fixedOf b) (fieldsOf b) (record { ranged = true; minimum = a .minimum; maximum = a .maximum; minword = low; maxword = high }) (b .firstref) (b .firstval) in
+    recordFrom (b .length) (b .links) (fixedOf b) (fieldsOf b) (record { ranged = true; minimum = a .minimum; maximum = a .maximum; minword = low; maxword = high }) (b .firstref) (b .firstval) in
     ap (λ (low : ℕ). made low (c .to-bits2 .result)) (c .before .to-bits .ensures) ∙ ap (made _) (c .to-bits2 .ensures)
 
 pub with-range-spec : {M : Type 1} → statement M

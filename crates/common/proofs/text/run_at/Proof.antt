@@ -6,7 +6,7 @@ use native.Mathlib.Omega.{arith}
 use borrow.Author.Tests.{eq-eqb, ne-eqb}
 use denote.Ref.{now}
 use Rattle.words.specs.Words.{word32, word64}
-use Rattle.common.specs.Header.{headerAt, isText}
+use Rattle.common.specs.Header.{headerAt, isTextBlock}
 use Rattle.common.specs.declared.header.Header.{Header}
 use Rattle.common.specs.declared.text.Text.the-variants.{Part}
 use Rattle.common.proofs.Texts.{run-other, run-under, run-cut, run-whole}
@@ -23,15 +23,15 @@ length-is : (c : tie.After-read) → c .read .result .length ≡ word64 (now (c 
 unfolding headerAt
 length-is c = ap (λ (h : Header). h .length) (c .read .ensures)
 
-is-text : (c : tie.Else1) → isText (now (c .before .before .before .before .args .image)) (c .before .before .before .before .args .at) ≡ true
-unfolding isText
+is-text : (c : tie.Else1) → isTextBlock (now (c .before .before .before .before .args .image)) (c .before .before .before .before .args .at) ≡ true
+unfolding isTextBlock
 is-text c = eq-eqb _ _ (sym (id-is (c .before .before)) ∙ c .if1 .left)
 
 read-requires : tie.Need-read-requires
 read-requires c κs = search needs
 
 returns : tie.Need-returns
-unfolding isText
+unfolding isTextBlock
 returns c =
     let a = c .before .before .before .before .args in
     let e = id-is (c .before .before) in

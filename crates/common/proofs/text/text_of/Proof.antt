@@ -1,7 +1,7 @@
 -- `common::text::text_of` meets its contract. Assumes nothing.
 use mathlib.Core.Path.{sym, ap, subst, _∙_}
 use denote.Ref.{now}
-use Rattle.common.specs.Text.{textOf, cutOff, Within}
+use Rattle.common.specs.Text.{textOf, cutOff, TextIn}
 use Rattle.common.specs.declared.text.Text.the-variants.{Part}
 use Rattle.common.proofs.Texts.{run-within}
 use borrow.Author.Needs.{needs}
@@ -17,7 +17,7 @@ enum-known-from c = search needs
 text-end-requires : tie.Need-text-end-requires
 text-end-requires c κs =
     let a = c .before .before .before .before .before .args in
-    subst (Within (now (a .image))) (sym (c .before .before .before .run-of .ensures) ∙ c .before .from .given .1) (run-within (now (a .image)) (a .link))
+    subst (TextIn (now (a .image))) (sym (c .before .before .before .run-of .ensures) ∙ c .before .from .given .1) (run-within (now (a .image)) (a .link))
 
 enum-told : tie.Need-enum-told
 enum-told c = search needs

@@ -1,7 +1,7 @@
 -- `conversion::shown::translate` meets its contract. Assumes nothing.
 use mathlib.Core.Path.{sym, ap, subst, _∙_}
 use denote.Ref.{now}
-use Rattle.conversion.specs.Shown.{Within, showing}
+use Rattle.conversion.specs.Shown.{ShownIn, showing}
 use Rattle.conversion.specs.declared.shown.Shown.the-variants.{Part}
 use borrow.Author.Needs.{needs}
 use Rattle.conversion.proofs.shown.translate.Statement.{statement}
@@ -15,8 +15,8 @@ enum-known-from c = search needs
 
 -- the part that is shown lies in the image
 lies : (c : tie.After-known-told)
-    → Within (now (c .before .before .before .before .before .before .args .image)) (Part (c .before .from .given .0 .0) (c .before .from .given .0 .1 .0))
-lies c = subst (Within (now (c .before .before .before .before .before .before .args .image))) (c .before .from .given .1) (c .before .before .before .shown-for .ensures .1)
+    → ShownIn (now (c .before .before .before .before .before .before .args .image)) (Part (c .before .from .given .0 .0) (c .before .from .given .0 .1 .0))
+lies c = subst (ShownIn (now (c .before .before .before .before .before .before .args .image))) (c .before .from .given .1) (c .before .before .before .shown-for .ensures .1)
 
 sub-result : tie.Need-sub-result
 sub-result c = lies c .0

@@ -3,7 +3,7 @@ use mathlib.Core.Path.{_≡_, refl, sym, subst}
 use denote.Ref.{now}
 use mathlib.Core.Logic.{⊎-elim}
 use Prim.Native.Nat.{_≤_}
-use Rattle.leads.specs.Lead.{Inside}
+use Rattle.leads.specs.Lead.{LeadIn}
 use Rattle.leads.proofs.Leads.{lead-at-inside}
 use Rattle.pieces.specs.Answer.{formula, broken}
 use Rattle.pieces.specs.declared.said.Said.{Said}
@@ -40,7 +40,7 @@ pub bit-groups-mask-at-requires : (t : ℕ) → bit-groups-lts.Need-mask-at-requ
 bit-groups-mask-at-requires t c κs = search needs
 
 pub bit-groups-part-requires : (t : ℕ) → bit-groups-lts.Need-part-requires (bit-groups-calls t) (bit-groups-at t) bit-groups.Post bit-groups-Inv-loop bit-groups-μ-loop
-bit-groups-part-requires t c κs = let inner = subst (Inside (now (c .before .before .before .before .before .before .before .before .before .args .image))) (sym (c .before .before .lead-at .ensures)) (lead-at-inside (now (c .before .before .before .before .before .before .before .before .before .args .image)) (c .before .before .before .before .before .before .before .before .before .args .b) (c .before .before .before .before .loop .i)) in
+bit-groups-part-requires t c κs = let inner = subst (LeadIn (now (c .before .before .before .before .before .before .before .before .before .args .image))) (sym (c .before .before .lead-at .ensures)) (lead-at-inside (now (c .before .before .before .before .before .before .before .before .before .args .image)) (c .before .before .before .before .before .before .before .before .before .args .b) (c .before .before .before .before .loop .i)) in
     (omega arith, (omega (arith, c .before .before .before .before .loop .inv .1 .put .wrote .same), omega (arith, c .before .before .before .before .loop .inv .1 .put .wrote .same, c .before .before .before .before .loop .inv .1 .put .end), inner))
 
 pub bit-groups-add-visits-requires : (t : ℕ) → bit-groups-lts.Need-add-visits-requires (bit-groups-calls t) (bit-groups-at t) bit-groups.Post bit-groups-Inv-loop bit-groups-μ-loop

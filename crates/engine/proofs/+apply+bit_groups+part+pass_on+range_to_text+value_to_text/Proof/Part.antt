@@ -2,7 +2,7 @@
 use Rattle.pieces.proofs.Answers.{put-did, quiet-did, pasted-did, did-in, no-words}
 use mathlib.Core.Path.{refl, sym, subst}
 use denote.Ref.{now}
-use Rattle.leads.specs.Lead.{Inside}
+use Rattle.leads.specs.Lead.{LeadIn}
 use Rattle.pieces.specs.Answer.{unchanged}
 use Rattle.pieces.specs.Did.{SaidIn, NoWords}
 use Rattle.pieces.specs.Label.{bar}
@@ -22,7 +22,7 @@ pub part-paste-bar-requires : (t : ℕ) → part-lts.Need-paste-bar-requires (pa
 part-paste-bar-requires t c κs = search needs
 
 pub part-paste-requires : (t : ℕ) → part-lts.Need-paste-requires (part-calls t) (part-at t) part.Post
-part-paste-requires t c κs = let lies = subst (Inside (now (c .before .before .before .before .before .before .before .before .before .before .before .args .image))) (c .before .before .before .before .before .before .lead .given .1) (c .before .before .before .before .before .before .before .before .before .before .before .pre .1 .2) in
+part-paste-requires t c κs = let lies = subst (LeadIn (now (c .before .before .before .before .before .before .before .before .before .before .before .args .image))) (c .before .before .before .before .before .before .lead .given .1) (c .before .before .before .before .before .before .before .before .before .before .before .pre .1 .2) in
     (omega (arith, c .before .before .before .paste-bar .ensures .wrote .same), omega (arith, c .before .before .before .paste-bar .ensures .wrote .same, c .before .before .before .paste-bar .ensures .end), lies .0, lies .1)
 
 pub part-quiet-requires : (t : ℕ) → part-lts.Need-quiet-requires (part-calls t) (part-at t) part.Post
@@ -32,10 +32,10 @@ pub part-enum-known-lead-2 : (t : ℕ) → part-lts.Need-enum-known-lead-2 (part
 part-enum-known-lead-2 t c = search needs
 
 pub part-paste-label-requires : (t : ℕ) → part-lts.Need-paste-label-requires (part-calls t) (part-at t) part.Post
-part-paste-label-requires t c κs = (omega arith, omega arith, subst (Inside (now (c .before .before .before .before .before .before .before .args .image))) (c .before .before .lead2 .given .1) (c .before .before .before .before .before .before .before .pre .1 .2))
+part-paste-label-requires t c κs = (omega arith, omega arith, subst (LeadIn (now (c .before .before .before .before .before .before .before .args .image))) (c .before .before .lead2 .given .1) (c .before .before .before .before .before .before .before .pre .1 .2))
 
 pub part-apply-requires : (t : ℕ) → part-lts.Need-apply-requires (part-calls t) (part-at t) part.Post
-part-apply-requires t c κs = (omega arith, (omega (arith, c .before .before .before .paste-label .ensures .wrote .same), omega (arith, c .before .before .before .paste-label .ensures .wrote .same, c .before .before .before .paste-label .ensures .end), subst (Inside (now (c .before .before .before .before .before .before .before .before .before .before .before .args .image))) (c .before .before .before .before .before .before .lead2 .given .1) (c .before .before .before .before .before .before .before .before .before .before .before .pre .1 .2)))
+part-apply-requires t c κs = (omega arith, (omega (arith, c .before .before .before .paste-label .ensures .wrote .same), omega (arith, c .before .before .before .paste-label .ensures .wrote .same, c .before .before .before .paste-label .ensures .end), subst (LeadIn (now (c .before .before .before .before .before .before .before .before .before .before .before .args .image))) (c .before .before .before .before .before .before .lead2 .given .1) (c .before .before .before .before .before .before .before .before .before .before .before .pre .1 .2)))
 
 pub part-enum-known-said : (t : ℕ) → part-lts.Need-enum-known-said (part-calls t) (part-at t) part.Post
 part-enum-known-said t c = search needs

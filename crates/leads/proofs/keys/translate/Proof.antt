@@ -3,7 +3,7 @@ use mathlib.Core.Path.{_≡_, ap, _∙_}
 use Prim.Native.Nat.{ℕ}
 use denote.Ref.{now}
 use Rattle.leads.specs.Lead.{leadAt}
-use Rattle.leads.specs.Keys.{firstText, pairCount, outputOf, translated}
+use Rattle.leads.specs.Keys.{firstText, pairCount, outputAt, translated}
 use borrow.Author.Needs.{needs}
 use Rattle.leads.proofs.keys.translate.Statement.{statement}
 use Rattle.leads.proofs.keys.translate.Tie as tie
@@ -29,8 +29,8 @@ returns c =
     c .before .before .before .pairs-of .ensures .0 in
     c .lead-at .ensures
     ∙ ap (leadAt img (s .b)) (c .before .output-of .ensures)
-    ∙ ap (λ (j : ℕ). leadAt img (s .b) (outputOf j (c .before .before .before .pairs-of .result))) (c .before .before .find-text .ensures)
-    ∙ ap (λ (p : ℕ). leadAt img (s .b) (outputOf (firstText img (s .b) (now (s .text)) 2 0 p) p)) pairs
+    ∙ ap (λ (j : ℕ). leadAt img (s .b) (outputAt j (c .before .before .before .pairs-of .result))) (c .before .before .find-text .ensures)
+    ∙ ap (λ (p : ℕ). leadAt img (s .b) (outputAt (firstText img (s .b) (now (s .text)) 2 0 p) p)) pairs
 
 pub translate-spec : {M : Type 1} → statement M
 translate-spec =

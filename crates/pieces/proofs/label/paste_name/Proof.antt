@@ -2,7 +2,7 @@
 use mathlib.Core.Path.{subst, sym, _∙_}
 use native.Mathlib.Omega.{arith}
 use denote.Ref.{now}
-use Rattle.common.specs.Text.{Within}
+use Rattle.common.specs.Text.{TextIn}
 use Rattle.pieces.proofs.Laws.{empty, then}
 use Rattle.pieces.proofs.Names.{name-within}
 use borrow.Author.Needs.{needs}
@@ -18,7 +18,7 @@ enum-known-from c = search needs
 paste-requires : tie.Need-paste-requires
 paste-requires c κs =
     let a = c .before .before .before .before .before .before .before .args in
-    let within = subst (Within (now (a .image))) (sym (c .before .before .before .before .name-at .ensures) ∙ c .before .before .from .given .1) (name-within (now (a .image)) (a .at)) in
+    let within = subst (TextIn (now (a .image))) (sym (c .before .before .before .before .name-at .ensures) ∙ c .before .before .from .given .1) (name-within (now (a .image)) (a .at)) in
     (omega arith, omega arith, within .0, within .1)
 
 paste-equals-requires : tie.Need-paste-equals-requires

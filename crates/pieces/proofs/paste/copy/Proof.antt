@@ -3,6 +3,7 @@ use mathlib.Core.Path.{_≡_}
 use Prim.Native.Nat.{_+_, _-_, _≤_}
 use native.Mathlib.Omega.{arith}
 use lib.ListN.{take, drop, length-drop}
+use Rattle.words.specs.Words.{part}
 use denote.Ref.{now}
 use borrow.Author.Needs.{needs}
 use Rattle.pieces.specs.Write.{Wrote}
@@ -12,7 +13,7 @@ use Rattle.pieces.proofs.paste.copy.Tie as tie
 
 abbrev Inv-loop : tie.InvT-loop
 Inv-loop image from to out₀ pos lim p₀ i₀ out p i =
-    (from ≤ i) × ((i ≤ to) × ((p ≡ pos + (i - from)) × Wrote out₀ out pos lim (take (i - from) (drop from image))))
+    (from ≤ i) × ((i ≤ to) × ((p ≡ pos + (i - from)) × Wrote out₀ out pos lim (part image from i)))
 
 abbrev μ-loop : tie.MeasureT-loop
 μ-loop image from to out₀ pos lim p₀ i₀ out p i = to - i

@@ -3,7 +3,7 @@ use mathlib.Core.Path.{sym, ap, _∙_}
 use mathlib.Core.Bool.{false}
 use denote.Ref.{now}
 use Rattle.rules.specs.declared.search.Searched.{Searched}
-use Rattle.steps.specs.Choice.{followed, chosenKey}
+use Rattle.steps.specs.Choice.{byReference, chosenKey}
 use borrow.Author.Needs.{needs}
 use Rattle.steps.proofs.choice.chosen_key.Statement.{statement}
 use Rattle.steps.proofs.choice.chosen_key.Tie as tie
@@ -31,7 +31,7 @@ returns c =
     let s = c .before .before .before .before .before .before .before .before .args in
     let img = now (s .image) in (
       c .follow .ensures .0
-          ∙ ap (λ (q : Searched). followed img (s .b) q false) (c .before .search-key .ensures)
+          ∙ ap (λ (q : Searched). byReference img (s .b) q false) (c .before .search-key .ensures)
           ∙ ap (chosenKey img (s .b)) (sym (c .before .before .before .before .x .given .1) ∙ c .before .before .before .before .before .before .take .ensures),
       c .follow .ensures .1,
     )

@@ -3,7 +3,7 @@ use mathlib.Core.Path.{sym, ap, _∙_}
 use mathlib.Core.Bool.{true}
 use denote.Ref.{now}
 use Rattle.rules.specs.declared.search.Searched.{Searched}
-use Rattle.steps.specs.Choice.{followed, chosenRange}
+use Rattle.steps.specs.Choice.{byReference, chosenRange}
 use borrow.Author.Needs.{needs}
 use Rattle.steps.proofs.choice.chosen_range.Statement.{statement}
 use Rattle.steps.proofs.choice.chosen_range.Tie as tie
@@ -31,7 +31,7 @@ returns c =
     let s = c .before .before .before .before .before .before .before .before .args in
     let img = now (s .image) in (
       c .follow .ensures .0
-          ∙ ap (λ (q : Searched). followed img (s .b) q true) (c .before .search-range .ensures)
+          ∙ ap (λ (q : Searched). byReference img (s .b) q true) (c .before .search-range .ensures)
           ∙ ap (chosenRange img (s .b)) (sym (c .before .before .before .before .x .given .1) ∙ c .before .before .before .before .before .before .take .ensures),
       c .follow .ensures .1,
     )

@@ -2,7 +2,7 @@
 use mathlib.Core.Path.{subst, _∙_}
 use native.Mathlib.Omega.{arith}
 use denote.Ref.{now}
-use Rattle.leads.specs.Lead.{Inside}
+use Rattle.leads.specs.Lead.{LeadIn}
 use borrow.Author.Needs.{needs}
 use Rattle.steps.proofs.choice.decide.Statement.{statement}
 use Rattle.steps.proofs.choice.decide.Tie as tie
@@ -28,12 +28,12 @@ default-of-requires-2 c κs = search needs
 returns : tie.Need-returns
 returns c =
     let s = c .before .before .before .before in
-    (rw (c .before .lead .given .1), subst (Inside (now (s .args .image))) (c .before .lead .given .1) (s .pre))
+    (rw (c .before .lead .given .1), subst (LeadIn (now (s .args .image))) (c .before .lead .given .1) (s .pre))
 
 returns-2 : tie.Need-returns-2
 returns-2 c =
     let s = c .before .before .before .before in
-    (rw (c .before .lead2 .given .1), subst (Inside (now (s .args .image))) (c .before .lead2 .given .1) (s .pre))
+    (rw (c .before .lead2 .given .1), subst (LeadIn (now (s .args .image))) (c .before .lead2 .given .1) (s .pre))
 
 returns-3 : tie.Need-returns-3
 returns-3 c = (rw (c .before .enum-told .given .1, c .if1 .taken), (omega arith, omega arith))

@@ -1,7 +1,7 @@
 -- `steps::choice::default_of` meets its contract. Assumes nothing.
 use mathlib.Core.Path.{sym, ap, subst, _∙_}
 use denote.Ref.{now}
-use Rattle.leads.specs.Lead.{Inside}
+use Rattle.leads.specs.Lead.{LeadIn}
 use Rattle.leads.proofs.Leads.{lead-at-inside}
 use Rattle.steps.specs.Choice.{ifConversion}
 use Rattle.steps.proofs.Choices.{last-of-many, last-of-few}
@@ -25,7 +25,7 @@ returns c =
     let l = c .before .before .before .lead-at in
     let last = last-of-many (now (s .image)) (s .b) (c .before .before .before .before .if2 .taken) (l .result) (l .ensures) in (
       rw (c .before .before .before .before .before .if1 .taken) (sym (last ∙ ap ifConversion (c .before .a .given .1))),
-      subst (Inside (now (s .image))) (sym (l .ensures) ∙ c .before .a .given .1) (lead-at-inside (now (s .image)) (s .b) _),
+      subst (LeadIn (now (s .image))) (sym (l .ensures) ∙ c .before .a .given .1) (lead-at-inside (now (s .image)) (s .b) _),
     )
 
 returns-2 : tie.Need-returns-2

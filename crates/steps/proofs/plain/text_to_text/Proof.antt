@@ -1,7 +1,7 @@
 -- `steps::plain::text_to_text` meets its contract. Assumes nothing.
 use mathlib.Core.Path.{sym, ap, subst, _∙_}
 use denote.Ref.{now}
-use Rattle.leads.specs.Lead.{Inside}
+use Rattle.leads.specs.Lead.{LeadIn}
 use Rattle.steps.specs.Plain.{orUnchanged, textToText}
 use Rattle.steps.proofs.Others.{no-words}
 use Rattle.steps.proofs.Within.{translated-inside}
@@ -24,7 +24,7 @@ returns c =
     let img = now (s .image) in
     let text = now (s .text) in (
       ap orUnchanged (sym (c .before .from .given .1) ∙ c .before .before .before .translate .ensures) ∙ ap (textToText img (s .b) text) (sym (c .before .before .before .before .if1 .taken) ∙ c .before .before .before .before .before .is-text .ensures),
-      subst (Inside img) (sym (c .before .before .before .translate .ensures) ∙ c .before .from .given .1) (translated-inside img (s .b) text),
+      subst (LeadIn img) (sym (c .before .before .before .translate .ensures) ∙ c .before .from .given .1) (translated-inside img (s .b) text),
     )
 
 returns-2 : tie.Need-returns-2

@@ -3,7 +3,7 @@ use mathlib.Core.Path.{sym, ap, subst, _∙_}
 use denote.Ref.{now}
 use Rattle.rules.specs.Numbers.{taken}
 use Rattle.rules.specs.Values.{values}
-use Rattle.steps.specs.Plain.{isText, PlainIn}
+use Rattle.steps.specs.Plain.{isTextValue, PlainIn}
 use Rattle.steps.specs.Step.{typed, StepIn}
 use Rattle.steps.specs.declared.step.Step.the-variants.{Done}
 use Rattle.steps.proofs.Others.{plain-type}
@@ -66,7 +66,7 @@ returns-4 : tie.Need-returns-4
 returns-4 c =
     let a = c .before .before .before .before .before .before .args in (
       ap Done (c .text-to-value .ensures) ∙ ap (typed (a .mode) (now (a .image)) (now (a .text)) (a .b) (a .v)) (sym (c .before .enum-told4 .given .1) ∙ c .before .before .before .from-u8 .ensures),
-      subst (PlainIn (now (a .image))) (sym (c .text-to-value .ensures)) (value-in (now (a .image)) (a .b) (now (a .text)) (isText (a .v))),
+      subst (PlainIn (now (a .image))) (sym (c .text-to-value .ensures)) (value-in (now (a .image)) (a .b) (now (a .text)) (isTextValue (a .v))),
     )
 
 returns-5 : tie.Need-returns-5

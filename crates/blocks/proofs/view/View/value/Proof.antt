@@ -1,6 +1,6 @@
 -- `blocks::view::View::value` meets its contract. Assumes nothing.
 use mathlib.Core.Path.{sym, ap, _∙_}
-use Rattle.blocks.specs.Place.{numbered}
+use Rattle.blocks.specs.Place.{asValue}
 use Rattle.blocks.specs.View.{valueIn}
 use Rattle.blocks.specs.declared.Number.the-variants.{Value}
 use borrow.Author.Needs.{needs}
@@ -21,11 +21,11 @@ enum-told c = search needs
 
 returns : tie.Need-returns
 unfolding valueIn
-returns c = ap Value (c .from-bits .ensures) ∙ ap numbered (sym (c .before .before .w .given .1) ∙ c .before .before .before .before .value-word .ensures)
+returns c = ap Value (c .from-bits .ensures) ∙ ap asValue (sym (c .before .before .w .given .1) ∙ c .before .before .before .before .value-word .ensures)
 
 returns-2 : tie.Need-returns-2
 unfolding valueIn
-returns-2 c = ap numbered (sym (c .enum-told .given .1) ∙ c .before .before .value-word .ensures)
+returns-2 c = ap asValue (sym (c .enum-told .given .1) ∙ c .before .before .value-word .ensures)
 
 pub value-spec : {M : Type 1} → statement M
 value-spec =

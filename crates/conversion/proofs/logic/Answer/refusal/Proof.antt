@@ -1,6 +1,6 @@
 -- `conversion::logic::Answer::refusal` meets its contract. Assumes nothing.
 use mathlib.Core.Path.{sym, ap, _∙_}
-use Rattle.conversion.specs.Entry.{refusalOf}
+use Rattle.conversion.specs.Entry.{refusalNumber}
 use Rattle.conversion.proofs.Refusals.{none-refused}
 use borrow.Author.Needs.{needs}
 use Rattle.conversion.proofs.logic.Answer.refusal.Statement.{statement}
@@ -13,7 +13,7 @@ number-requires : tie.Need-number-requires
 number-requires c κs = search needs
 
 returns : tie.Need-returns
-returns c = c .number .ensures ∙ ap refusalOf (sym (c .before .before .self .given .1))
+returns c = c .number .ensures ∙ ap refusalNumber (sym (c .before .before .self .given .1))
 
 returns-2 : tie.Need-returns-2
 returns-2 c = none-refused (c .before .args .self) (c .match .keys2) .0
