@@ -24,7 +24,7 @@ use Rattle.pieces.proofs.Laws.{none, forget, next, then}
 -- a plain answer writes nothing
 told-did : (img o : List ℕ) (pos lim : ℕ) (p : Plain) → PlainIn img p → Did img o o pos lim (spelled img p) 0 (toldOf p)
 told-did img o pos lim (plain.Number x) h = record { says = refl; count = refl; wrote = none o pos lim }
-told-did img o pos lim (plain.Words from to) h = record { says = (refl, h .0, h .1); count = refl; wrote = none o pos lim }
+told-did img o pos lim (plain.Words from to) h = record { says = (refl, h); count = refl; wrote = none o pos lim }
 told-did img o pos lim plain.Unchanged h = record { says = refl; count = refl; wrote = none o pos lim }
 told-did img o pos lim plain.Unknown h = record { says = refl; count = refl; wrote = none o pos lim }
 told-did img o pos lim plain.Formula h = record { says = refl; count = refl; wrote = none o pos lim }
@@ -40,7 +40,7 @@ quiet-did x o pos lim says count nothing = record { says = says; count = count; 
 
 text-in : (img : List ℕ) (room pos : ℕ) (t : List ℕ) (s : Said) → SaysText img room pos t s → SaidIn img s
 text-in img room pos t (said.Number x) k = tt
-text-in img room pos t (said.Words from to) k = (k .1, k .2)
+text-in img room pos t (said.Words from to) k = k .1
 text-in img room pos t (said.Text e) k = tt
 text-in img room pos t said.Unchanged k = tt
 text-in img room pos t said.Unknown k = tt

@@ -30,7 +30,7 @@ copy-requires c κs =
     let a = c .before .before .before .before .before .args in
     let m = c .before .before .measure .ensures in
     let short = bytes-short (now (a .image)) (a .from) (a .to) in
-    (omega (arith, c .before .if1 .left), omega (arith, m), omega (arith, m, short))
+    (omega (arith, c .before .if1 .left), (omega (arith, m), omega (arith, m, short)))
 
 same-length : tie.Need-same-length
 same-length c = search needs

@@ -15,7 +15,7 @@ paste-requires : tie.Need-paste-requires
 paste-requires c κs =
     let s = c .before .before .before .before .before .before in
     let run = subst (SaidIn (now (s .args .image))) (c .before .before .said .given .1) (s .pre .1) in
-    (omega arith, omega arith, run .0, run .1)
+    (omega arith, omega arith, run)
 
 same-length : tie.Need-same-length
 same-length c = search needs

@@ -23,7 +23,7 @@ part-paste-bar-requires t c κs = search needs
 
 pub part-paste-requires : (t : ℕ) → part-lts.Need-paste-requires (part-calls t) (part-at t) part.Post
 part-paste-requires t c κs = let lies = subst (LeadIn (now (c .before .before .before .before .before .before .before .before .before .before .before .args .image))) (c .before .before .before .before .before .before .lead .given .1) (c .before .before .before .before .before .before .before .before .before .before .before .pre .1 .2) in
-    (omega (arith, c .before .before .before .paste-bar .ensures .wrote .same), omega (arith, c .before .before .before .paste-bar .ensures .wrote .same, c .before .before .before .paste-bar .ensures .end), lies .0, lies .1)
+    (omega (arith, c .before .before .before .paste-bar .ensures .wrote .same), omega (arith, c .before .before .before .paste-bar .ensures .wrote .same, c .before .before .before .paste-bar .ensures .end), lies)
 
 pub part-quiet-requires : (t : ℕ) → part-lts.Need-quiet-requires (part-calls t) (part-at t) part.Post
 part-quiet-requires t c κs = search needs
@@ -42,7 +42,7 @@ part-enum-known-said t c = search needs
 
 pub part-paste-requires-2 : (t : ℕ) → part-lts.Need-paste-requires-2 (part-calls t) (part-at t) part.Post
 part-paste-requires-2 t c κs = let lies = subst (SaidIn (now (c .before .before .before .before .before .before .before .before .before .before .before .before .before .before .before .before .before .before .args .image))) (c .before .before .said .given .1) (did-in (c .before .before .before .before .before .before .apply .ensures)) in
-    (omega (arith, c .before .before .before .before .before .before .before .before .before .before .paste-label .ensures .wrote .same, c .before .before .before .before .before .before .apply .ensures .wrote .same), omega (arith, c .before .before .before .before .before .before .before .before .before .before .paste-label .ensures .wrote .same, c .before .before .before .before .before .before .before .before .before .before .paste-label .ensures .end, c .before .before .before .before .before .before .apply .ensures .wrote .same), lies .0, lies .1)
+    (omega (arith, c .before .before .before .before .before .before .before .before .before .before .paste-label .ensures .wrote .same, c .before .before .before .before .before .before .apply .ensures .wrote .same), omega (arith, c .before .before .before .before .before .before .before .before .before .before .paste-label .ensures .wrote .same, c .before .before .before .before .before .before .before .before .before .before .paste-label .ensures .end, c .before .before .before .before .before .before .apply .ensures .wrote .same), lies)
 
 pub part-enum-told : (t : ℕ) → part-lts.Need-enum-told (part-calls t) (part-at t) part.Post
 part-enum-told t c = search needs

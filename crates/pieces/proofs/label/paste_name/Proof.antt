@@ -19,7 +19,7 @@ paste-requires : tie.Need-paste-requires
 paste-requires c κs =
     let a = c .before .before .before .before .before .before .before .args in
     let within = subst (TextIn (now (a .image))) (sym (c .before .before .before .before .name-at .ensures) ∙ c .before .before .from .given .1) (name-within (now (a .image)) (a .at)) in
-    (omega arith, omega arith, within .0, within .1)
+    (omega arith, omega arith, within)
 
 paste-equals-requires : tie.Need-paste-equals-requires
 paste-equals-requires c κs = search needs
