@@ -1,9 +1,9 @@
 -- What acceptance tells (demand 3): every block of the unfolded tree is whole, the depth fits, and N is the tree's size; and a higher limit
 -- changes no accepted count. Assumes nothing.
-use mathlib.Core.Path.{_≡_, refl, sym, ap, subst, _∙_}
+use mathlib.Core.Path.{_≡_, refl, sym, ap, _∙_}
 use mathlib.Core.Bool.{Bool, true, false, cond}
 use mathlib.Core.List.{List, [], _∷_, _++_}
-use Prim.Native.Nat.{ℕ, zero, suc, _+_, _-_, _≤_, _<_}
+use Prim.Native.Nat.{ℕ, zero, suc, _+_, _≤_}
 use native.Mathlib.Omega.{arith}
 use lib.Dec.{eqb, leb}
 use lib.ListN.{length, length-append}
@@ -14,9 +14,8 @@ use Rattle.common.proofs.Headers.{inside-fits}
 use Rattle.blocks.specs.Block.{blockEnd, blockAt, opened}
 use Rattle.blocks.specs.Place.{references}
 use Rattle.blocks.specs.declared.Block.{Block}
-use Rattle.blocks.specs.declared.Parsed.{Parsed}
 use Rattle.blocks.specs.declared.Parsed.the-variants.{Whole, Refused}
-use Rattle.tree.specs.Walk.{Walk, End, complete, fault, Fault, deep, stopped, onward, andThen, followed, walkLinks, unlessShort, on, classed, walk, trace, answer, checked}
+use Rattle.tree.specs.Walk.{Walk, End, complete, fault, deep, stopped, onward, andThen, followed, walkLinks, unlessShort, on, classed, walk, trace, answer, checked}
 use Rattle.tree.specs.Tree.{leadsIn, sizes, size, Each, Sound}
 use Rattle.tree.specs.declared.Link.{Link}
 use Rattle.tree.specs.declared.Link.the-variants.{Nowhere, Back, Nested}

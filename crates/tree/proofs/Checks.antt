@@ -3,17 +3,16 @@
 use mathlib.Core.Path.{_≡_, refl, sym, ap, _∙_}
 use mathlib.Core.Bool.{Bool, true, false, cond}
 use mathlib.Core.Logic.{⊎-elim}
-use mathlib.Core.List.{List, [], _∷_}
-use Prim.Native.Nat.{ℕ, zero, suc, _+_, _-_, _≤_, _<_}
+use mathlib.Core.List.{List}
+use Prim.Native.Nat.{ℕ, _+_, _-_, _≤_, _<_}
 use native.Mathlib.Omega.{arith}
 use lib.ListN.{length, getD}
 use Rattle.words.proofs.Clash.{clash}
 use Rattle.common.specs.Header.{inside, isConversion}
-use Rattle.common.specs.declared.refusal.Refusal.{Refusal}
 use Rattle.common.specs.declared.refusal.Refusal.the-variants.{Outside, NotConversion, Limit}
-use Rattle.tree.specs.Walk.{Walk, End, complete, fault, Fault, short, deep, loop, walk, trace, ended, answer, checked}
+use Rattle.tree.specs.Walk.{End, complete, fault, short, deep, loop, trace, ended, answer, checked}
 use Rattle.tree.specs.declared.Checked.{Checked}
-use Rattle.tree.specs.declared.Checked.the-variants.{Accepted, Unsound}
+use Rattle.tree.specs.declared.Checked.the-variants.{Unsound}
 use Rattle.tree.proofs.Answers.{lt-or-le, over, under}
 
 module _ (img : List ℕ) (a l : ℕ) where

@@ -4,4 +4,5 @@ pub mod Following
 pub mod Blocks
 pub mod Checks
 pub mod Acceptance
+pub mod Converse
 pub mod Cases

@@ -96,7 +96,7 @@ unfolding on
 standing-none img r e = clash cc
 
 -- one block more
-on-more : (path : List ℕ) (a r : ℕ) → on r (path ++ (a ∷ [])) ≡ true → (on r path ≡ true) ⊎ (a ≡ r)
+pub on-more : (path : List ℕ) (a r : ℕ) → on r (path ++ (a ∷ [])) ≡ true → (on r path ≡ true) ⊎ (a ≡ r)
 unfolding on
 on-more [] a r e = go (eqb a r) refl e
   where
