@@ -9,6 +9,7 @@ use native.Mathlib.Omega.{arith}
 use borrow.Author.Tests.{eqb-true, eq-eqb, le-leb}
 use lib.Dec.{eqb}
 use lib.ListN.{length, getD, length-append}
+use Rattle.words.proofs.Clash.{clash}
 use Rattle.common.specs.Header.{inside, isConversion}
 use Rattle.common.specs.declared.refusal.Refusal.{Refusal}
 use Rattle.common.specs.declared.refusal.Refusal.the-variants.{Limit}
@@ -64,7 +65,7 @@ size-levels (suc d) (suc e) img a h s =
 -- what holds of each holds of the one that is there
 each-of : (P : ℕ → Type 0) (k : ℕ → Bool) (r : ℕ) → k r ≡ true → (rs : List ℕ) → on r rs ≡ true → Each P k rs → P r
 unfolding on Each
-each-of P k r t [] o h = let z : _≡_ {A = ℕ} 0 1 = cc in absurd (omega arith)
+each-of P k r t [] o h = clash cc
 each-of P k r t (x ∷ rs) o h = go (eqb x r) refl o (λ p. each-of P k r t rs p (h .1))
   where
     go : (b : Bool) → eqb x r ≡ b → cond b true (on r rs) ≡ true → (on r rs ≡ true → P r) → P r
@@ -74,7 +75,7 @@ each-of P k r t (x ∷ rs) o h = go (eqb x r) refl o (λ p. each-of P k r t rs p
 -- and its size is at most the sum
 summand : (g : ℕ → ℕ) (k : ℕ → Bool) (r : ℕ) → k r ≡ true → (rs : List ℕ) → on r rs ≡ true → g r ≤ sizes g k rs
 unfolding on sizes
-summand g k r t [] o = let z : _≡_ {A = ℕ} 0 1 = cc in absurd (omega arith)
+summand g k r t [] o = clash cc
 summand g k r t (x ∷ rs) o = go (eqb x r) refl o (summand g k r t rs)
   where
     go : (b : Bool) → eqb x r ≡ b → cond b true (on r rs) ≡ true → (on r rs ≡ true → g r ≤ sizes g k rs) → g r ≤ cond (k x) (g x) 0 + sizes g k rs
@@ -122,7 +123,7 @@ in-a-row v w m n h k = go (v .ending) (h .0)
   where
     go : (e : End) → e ≡ complete → (onward e (v .visits) w .ending ≡ complete) × (length (onward e (v .visits) w .visits) ≡ m + n)
     go complete e = (k .0, omega (arith, h .1, k .1, length-append (v .visits) (w .visits)))
-    go (fault f) e = let z : _≡_ {A = ℕ} 0 1 = cc in absurd (omega arith)
+    go (fault f) e = clash cc
 
 -- on a path of ##CC blocks, a reference that leads to none leads nowhere
 outward : (img path : List ℕ) (r : ℕ) → Standing img path → leadsIn img r ≡ false → classed img path r ≡ Nowhere
@@ -132,7 +133,7 @@ outward img path r stands e = go (eqb r 0) (inside img r) refl (isConversion img
     go : (s u : Bool) → inside img r ≡ u → (v : Bool) → isConversion img r ≡ v → cond s false (cond u v false) ≡ false
         → cond s Nowhere (cond (on r path) Back (cond u (cond v Nested Nowhere) Nowhere)) ≡ Nowhere
     go true u eu v ev p = refl
-    go false true eu true ev p = let z : _≡_ {A = ℕ} 0 1 = cc in absurd (omega arith)
+    go false true eu true ev p = clash cc
     go false true eu false ev p = rw (off-path img path r stands (not-conversion img r ev))
     go false false eu v ev p = rw (off-path img path r stands (not-inside img r eu))
 
@@ -143,11 +144,11 @@ inward img path r off e = go (eqb r 0) (on r path) off (inside img r) (isConvers
   where
     go : (s t : Bool) → t ≡ false → (u v : Bool) → cond s false (cond u v false) ≡ true
         → cond s Nowhere (cond t Back (cond u (cond v Nested Nowhere) Nowhere)) ≡ Nested
-    go true t o u v p = let z : _≡_ {A = ℕ} 0 1 = cc in absurd (omega arith)
-    go false true o u v p = let z : _≡_ {A = ℕ} 0 1 = cc in absurd (omega arith)
+    go true t o u v p = clash cc
+    go false true o u v p = clash cc
     go false false o true true p = refl
-    go false false o true false p = let z : _≡_ {A = ℕ} 0 1 = cc in absurd (omega arith)
-    go false false o false v p = let z : _≡_ {A = ℕ} 0 1 = cc in absurd (omega arith)
+    go false false o true false p = clash cc
+    go false false o false v p = clash cc
 
 -- the references of a block, where each nested walk is complete and none goes back
 module _ (f : ℕ → Walk) (img path : List ℕ) (g : ℕ → ℕ) (stands : Standing img path) where
@@ -211,7 +212,7 @@ module _ (img : List ℕ) (a l : ℕ) (fits : a + 24 ≤ length img) (is : isCon
 
   the-walk : (trace img a .ending ≡ complete) × (length (trace img a .visits) ≡ size 21 img a)
   unfolding on
-  the-walk = sound-walk 21 img [] a (standing-none img) fits is (λ x e. let z : _≡_ {A = ℕ} 0 1 = cc in absurd (omega arith)) s
+  the-walk = sound-walk 21 img [] a (standing-none img) fits is (λ x e. clash cc) s
 
   -- a sound tree that fits the limit is accepted, with its size
   pub accepted-when : size 21 img a ≤ l → checked img a l ≡ Accepted (size 21 img a)
@@ -229,7 +230,7 @@ module _ (img : List ℕ) (a l : ℕ) (fits : a + 24 ≤ length img) (is : isCon
   only-limit x e =
       ⊎-elim
       (λ lt. let q : Unsound (Limit (getD (trace img a .visits) l 0)) ≡ Unsound x = sym (limited-when lt) ∙ e in (lt, (cc)))
-      (λ le. let q : Accepted (size 21 img a) ≡ Unsound x = sym (accepted-when le) ∙ e in let z : _≡_ {A = ℕ} 0 1 = cc in absurd (omega arith))
+      (λ le. let q : Accepted (size 21 img a) ≡ Unsound x = sym (accepted-when le) ∙ e in clash cc)
       (lt-or-le l (size 21 img a))
 
 -- the check accepts exactly the trees that are sound and whose size is at most the limit
@@ -244,7 +245,7 @@ accepted-iff img a l n = (
 pub refused-iff : (img : List ℕ) (a l : ℕ)
     → ((x : Refusal) × (checked img a l ≡ Unsound x)) ↔ ¬ ((a + 24 ≤ length img) × (isConversion img a ≡ true) × Sound 21 img a × (size 21 img a ≤ l))
 refused-iff img a l = (
-  λ r h. let e : Accepted (size 21 img a) ≡ Unsound (r .0) = sym (accepted-when img a l (h .0) (h .1) (h .2) (h .3)) ∙ r .1 in let z : _≡_ {A = ℕ} 0 1 = cc in omega arith,
+  λ r h. let e : Accepted (size 21 img a) ≡ Unsound (r .0) = sym (accepted-when img a l (h .0) (h .1) (h .2) (h .3)) ∙ r .1 in clash cc,
   λ bad. go bad (checked img a l) refl,
 )
   where
