@@ -1,5 +1,5 @@
-# `make test` is the whole test command; `make demo` shows the main job on the sample image; `make face` tries the C header and the Rust crate;
-# `make compare` asks the crate mf4-rs as well, and `make bench` takes the speed beside it.
+# `make test` is the whole test command; `make demo` shows the main job on the sample image; `make face` tries the C header, the Rust crate and the
+# examples; `make compare` asks the crate mf4-rs as well, and `make bench` takes the speed beside it.
 KIT := $(shell cat KIT)
 
 # The comparison: N cases from SEED on, the folder of the crate's source, and the folder of the packages that the source needs.
@@ -12,24 +12,25 @@ export MF4_SOURCE CARGO_REGISTRY
 .PHONY: test demo face compare sharp record bench kit
 
 # The gate comes first and proves everything from nothing. The faces and the comparison then link what it has just proved, so that nothing is proved
-# twice; the comparison runs where its source and packages are at hand, and is otherwise named in one line. The gate's verdict is said again at the end.
+# twice; the comparison runs where its source and packages are at hand, or can be installed, and is otherwise named in one line. The gate's verdict is
+# said again at the end.
 test: kit
-	@rt fmt --check
+	@rt fmt --check && tools/cited docs/RULES.md
 	@said="$$(mktemp)"; { rt ci 2>&1; echo "$$?" > "$$said.status"; } | tee "$$said"; \
 	verdict="$$(tail -n 1 "$$said")"; status="$$(cat "$$said.status")"; rm -f "$$said" "$$said.status"; \
 	[ "$$status" = 0 ] || exit 1; \
 	$(MAKE) --no-print-directory face && compare/run --if-possible run $(N) $(SEED) && echo "$$verdict"
 
-# The program is proved before it is run; what the prover says is kept in target/demo.log.
+# The program is proved before it is run. It is shown which crate is being proved, k of n; what the prover says is kept in target/demo.log.
 demo: kit
 	@mkdir -p target; echo "Proving the program before it runs: some minutes the first time."
-	@rt check show_values > target/demo.log 2>&1 || { tail -n 20 target/demo.log; exit 1; }
+	@tools/progress target/demo.log show_values rt check show_values || { tail -n 20 target/demo.log; exit 1; }
 	@target/bin/show_values < crates/show_values/stdin
 
-# The archive that C and Rust link is proved before it is built; what the prover says is kept in target/face.log.
+# The archive that C and Rust link is proved before it is built, and shown likewise; what the prover says is kept in target/face.log.
 face: kit
 	@mkdir -p target; echo "Proving what C and Rust link: some minutes the first time."
-	@rt staticlib gateway > target/face.log 2>&1 || { tail -n 20 target/face.log; exit 1; }
+	@tools/progress target/face.log gateway rt staticlib gateway || { tail -n 20 target/face.log; exit 1; }
 	@sh face/test.sh
 
 compare: kit
