@@ -1,7 +1,7 @@
 #!/bin/sh
-# Tries the C and the Rust face on the archive of the proved code: the header and its example as C11 and C++17, the C test plain and under
-# valgrind, images that only a bounded call gets through, the stack that a call takes, and the tests of the Rust crate. Where a tool is missing
-# it says in one line what was not run, and goes on.
+# Tries the C and the Rust face on the archive of the proved code: the header and the C example as C11 and C++17, the C test plain and under
+# valgrind, images that only a bounded call gets through, the stack that a call takes, the tests of the Rust crate, and the examples, whose text and
+# whose answers are those that README.md and the header show. Where a tool is missing it says in one line what was not run, and goes on.
 set -eu
 cd "$(dirname "$0")/.."
 
@@ -11,6 +11,32 @@ warnings='-Wall -Wextra -Wpedantic -Werror'
 
 has() { command -v "$1" >/dev/null 2>&1; }
 missing() { echo "face: no $1 here, so not run: $2"; }
+fail() { echo "face: $1"; exit 1; }
+
+# Whether a file has these lines, one behind the other.
+has_lines() { # FILE LINES
+    WANTED=$2 awk '{ text = text $0 "\n" } END { exit !index("\n" text, "\n" ENVIRON["WANTED"] "\n") }' "$1"
+}
+
+# A command line and what it prints, as README.md shows them.
+transcript() { # LINE
+    printf '    $ %s\n' "$1"
+    sh -c "$1" </dev/null | sed 's/^/    /'
+}
+
+is_in_readme() { # TRANSCRIPT
+    has_lines README.md "$1" || { echo 'face: README.md does not show this:'; echo "$1"; exit 1; }
+}
+
+# Each block of README.md in a language is a part of the example in that language.
+blocks_are_from() { # LANGUAGE EXAMPLE
+    awk -v language="$1" '
+        NR == FNR { example = example "\n" $0; next }
+        $0 == "```" language { inside = 1; block = deeper = "\n"; count++; next }
+        $0 == "```" { if (inside && !index(example "\n", block) && !index(example "\n", deeper)) bad = 1; inside = 0 }
+        inside { block = block $0 "\n"; deeper = deeper ($0 == "" ? "" : "    ") $0 "\n" }
+        END { exit bad || !count }' "$2" README.md || fail "what README.md shows in $1 is not from $2"
+}
 
 # Compiles LANGUAGE source from standard input.
 compile() { # COMPILER LANGUAGE STANDARD [WORDS...]
@@ -20,16 +46,18 @@ compile() { # COMPILER LANGUAGE STANDARD [WORDS...]
     "$compiler" -x "$language" "-std=$standard" $warnings -Iface/c - -x none "$@"
 }
 
-# The example in the header's first comment.
-example() { sed -n '/^ \*     #include "mdf_conversion.h"$/,/^ \*     }$/s/^ \*     //p' face/c/mdf_conversion.h; }
-
-# The header, included twice, and its example, which is run on the sample image.
+# The header, included twice, and the example, which is run on the sample image.
 header() { # COMPILER LANGUAGE STANDARD
     printf '#include "mdf_conversion.h"\n#include "mdf_conversion.h"\n' | compile "$1" "$2" "$3" -fsyntax-only
-    example | compile "$1" "$2" "$3" "$archive" -o "$made/example"
-    answer=$("$made/example")
-    [ "$answer" = 'text Gear = Low|PTO' ] || { echo "face: the header's example, as $3, prints: $answer"; exit 1; }
-    echo "face: the header and its example are clean $3"
+    compile "$1" "$2" "$3" "$archive" -o target/convert <examples/convert.c
+    is_in_readme "$(transcript 'target/convert samples/tractor.mdf')"
+    echo "face: the header and the example are clean $3"
+}
+
+# The lines of the example, from its first #include on, stand in the header's first comment.
+header_has_example() {
+    lines=$(sed -n '/^#include "mdf_conversion.h"$/,$p' examples/convert.c | sed -e 's/^/ *     /' -e 's/ *$//')
+    has_lines face/c/mdf_conversion.h "$lines" || fail 'the example in the header is not examples/convert.c'
 }
 
 # One of the programs in face/c.
@@ -60,10 +88,22 @@ c_face() {
 rust_face() {
     (cd face/rust && cargo test --offline) >"$made/cargo.log" 2>&1 || { cat "$made/cargo.log"; exit 1; }
     awk '/^test result: ok/ { passed += $4 } END { print "Rust face: " passed " tests passed, 0 failed" }' "$made/cargo.log"
+    is_in_readme "$(transcript 'cargo run --quiet --offline --manifest-path face/rust/Cargo.toml --example convert')"
+    is_in_readme "$(shell_example)"
+    echo 'Rust face: the examples in Rust and of the command print what README.md shows'
+}
+
+# The command was built with the tests.
+shell_example() {
+    PATH=${CARGO_TARGET_DIR:-$PWD/face/rust/target}/debug:$PATH
+    grep -v '^#' examples/convert.sh | while IFS= read -r line; do transcript "$line"; done
 }
 
 [ -f "$archive" ] || { echo "face: no archive at $archive; rt staticlib gateway makes it"; exit 1; }
 mkdir -p "$made"
+header_has_example
+blocks_are_from c examples/convert.c
+blocks_are_from rust examples/convert.rs
 if has gcc; then c_face; else missing gcc 'the header as C11 and the C test'; fi
 if has g++; then header g++ c++ c++17; else missing g++ 'the header as C++17'; fi
 if has cargo && has cc; then rust_face; else missing 'cargo or cc' 'the tests of the Rust crate'; fi
