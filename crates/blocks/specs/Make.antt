@@ -1,4 +1,5 @@
--- Records that are made and not read (document 01, "construction functions on the record's type"). Assumes nothing: these are definitions.
+-- Records that are made and not read (document 01, "The right form for each place": "construction functions on the record's type"). Assumes
+-- nothing: these are definitions.
 use Prim.Native.Nat.{ℕ}
 use mathlib.Core.Bool.{true}
 use lib.Ieee.{Float, binary64, toBits}

@@ -1,4 +1,4 @@
--- Where a reference leads (document 01, "Applying": "The reference at the index then decides. A text: that text. A conversion: ..").
+-- Where a reference leads (document 01, "Applying": ".. the reference at the index then decides. A text: that text. A conversion: ..").
 -- Assumes nothing: these are definitions.
 use Prim.Native.Nat.{ℕ, _+_, _≤_}
 use mathlib.Core.Bool.{cond}

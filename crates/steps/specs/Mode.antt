@@ -1,4 +1,5 @@
--- What an application may vary (document 01 has one mode; requests [2] and [8] name the others). Assumes nothing: these are definitions.
+-- What an application may vary: how many bits reach the masks, and whether bit groups are known. Document 01 has one mode, `standard` (document 01,
+-- "Applying", bit groups: "the integer's 64 bits"). Assumes nothing: these are definitions.
 use Prim.Native.Nat.{ℕ, _%_, _^_}
 use Rattle.common.specs.declared.refusal.Word.{Word}
 use Rattle.common.specs.declared.refusal.Word.the-variants.{Bits, NoWord}
