@@ -35,6 +35,9 @@
  * - A slice has at most PTRDIFF_MAX bytes.
  * - `out` shares no byte with another slice of the call, and no other thread writes to a slice, or reads `out`, while the call runs.
  *
+ * And the float environment that a C program starts with: results round to nearest, and no subnormal number is flushed to zero. After fesetround, or
+ * in a program that is linked with -ffast-math, a call can answer otherwise.
+ *
  * A call keeps nothing, and uses no heap and no variable of its own. Calls may run at the same time.
  *
  * What a call can cost. With S the bytes of the image, N the visits of the check, which are at most `limit`, B the bytes of the largest block that
@@ -46,7 +49,7 @@
  *   the block at `address`. A text of the image is looked at no further than one byte past the room that is left, a key no further than one byte
  *   past the value's end: how long a text is plays no part, nor how many references lead to it.
  * - mdf_translate takes what the check and the keys take, and reads the text that it shows once, to its end.
- * - mdf_parse and mdf_write take their block.
+ * - mdf_parse, mdf_reference and mdf_value_word take a constant, however large the block; mdf_write takes what it writes.
  *
  * So `limit` and the length of `out` are the caller's brake. Choose a limit well above the nested blocks that one conversion is expected to have:
  * 4096 is generous, while 4294967295 lets an image of some kilobytes begin that many visits. Choose `out` as long as the longest text that can be shown: a
@@ -59,9 +62,6 @@
 
 #include <stddef.h>
 #include <stdint.h>
-#ifndef __cplusplus
-#include <stdbool.h>
-#endif
 
 #ifdef __cplusplus
 extern "C" {
@@ -128,7 +128,7 @@ typedef struct {
                                                 6 range to value, 7 value to text, 8 range to text, 9 text to value, 10 text to text,
                                                 11 bit groups; any other is unknown */
     uint8_t precision;
-    bool ranged;                             /* whether there is a range */
+    uint8_t ranged;                          /* whether there is a range: 1 or 0 as parsed; as given, any other than 0 counts as 1 */
 } mdf_block;
 
 /* The answer of parsing. */
@@ -137,6 +137,14 @@ typedef struct {
     uint64_t address; /* of the refusal */
     mdf_block block;  /* all 0 where refused */
 } mdf_parsed;
+
+/* The answer of reading by place. */
+typedef struct {
+    uint32_t refusal; /* 0: the block was parsed */
+    uint32_t found;   /* 1: the block has that place; 0: it has none, or refused */
+    uint64_t address; /* of the refusal */
+    uint64_t word;    /* the 64 bits that stand there, if found; else 0 */
+} mdf_word;
 
 /* The answer of writing. */
 typedef struct {
@@ -179,6 +187,14 @@ mdf_shown mdf_translate(const uint8_t *image, size_t image_len, uint64_t address
  * - its references, 8 bytes each, from address + 56 on: links - 4 of them, none where links is below 4;
  * - its values, 8 bytes each, val_count of them, from address + 64 + 8 * references on, and 16 more where there is a range. */
 mdf_parsed mdf_parse(const uint8_t *image, size_t image_len, uint64_t address);
+
+/* Reads one reference of the block at `address`, the first of which has index 0. Answers its word, which is the address of a block or 0; or that
+ * the block has no such reference, for any index from its number of references on; or refuses as mdf_parse does, with 1, 2 or 4. */
+mdf_word mdf_reference(const uint8_t *image, size_t image_len, uint64_t address, uint64_t index);
+
+/* As mdf_reference, for a value, val_count of which a block has. Answers its 64 bits: those of a double, or of a whole number where the block's type
+ * takes its values as such, as the masks of bit groups. */
+mdf_word mdf_value_word(const uint8_t *image, size_t image_len, uint64_t address, uint64_t index);
 
 /* Writes a block with these references and these values, each value as its 64 bits.
  * Of `block` it takes the four fixed links, kind, precision, flags, ref_count and, where `ranged` is true, the range. A range bound that is a NaN

@@ -5,6 +5,7 @@
 #include "mdf_conversion.h"
 
 #include <math.h>
+#include <stdbool.h>
 #include <stdio.h>
 #include <stdlib.h>
 #include <string.h>

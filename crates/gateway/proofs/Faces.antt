@@ -1,8 +1,16 @@
--- What the entries' proofs share: the face of an answer and of what its call left in the lent output, and the order of a shown part.
+-- What the entries' proofs share: the face of an answer and of what its call left in the lent output, the order of a shown part, the face of a word
+-- that is read by place; and that C's truth of a range comes back as it was.
 -- Assumes nothing.
-use mathlib.Core.Path.{_≡_, ap, _∙_}
+use mathlib.Core.Path.{_≡_, refl, sym, ap, _∙_}
+use mathlib.Core.Bool.{Bool, true, false}
 use mathlib.Core.List.{List}
 use Prim.Native.Nat.{ℕ}
+use Rattle.common.specs.declared.refusal.Refusal.{Refusal}
+use Rattle.common.specs.declared.refusal.Word.{Word}
+use Rattle.blocks.specs.Block.{parsed}
+use Rattle.blocks.specs.declared.Block.{Block}
+use Rattle.blocks.specs.declared.Parsed.{Parsed}
+use Rattle.blocks.specs.declared.Parsed.the-variants.{Whole, Refused}
 use Rattle.conversion.specs.Entry.{Call, call}
 use Rattle.conversion.specs.Shown.{ShownIn}
 use Rattle.conversion.specs.declared.logic.Applied.{Applied}
@@ -12,9 +20,11 @@ use Rattle.writer.specs.Write.{WriteCall, writeCall}
 use Rattle.writer.specs.declared.Written.{Written}
 use Rattle.gateway.specs.Checked.{Ordered}
 use Rattle.gateway.specs.Applied.{appliedFace, face, callFace}
-use Rattle.gateway.specs.Block.{writtenFace, faceWrote, writingFace}
+use Rattle.gateway.specs.Block.{writtenFace, faceWrote, writingFace, flagOf, isSet}
+use Rattle.gateway.specs.Place.{wordFace, unreadFace, readFace, placeFace}
 use Rattle.gateway.specs.declared.applied.MdfApplied.{MdfApplied}
-use Rattle.gateway.specs.declared.block.MdfWritten.{MdfWritten}
+use Rattle.gateway.specs.declared.place.MdfWord.{MdfWord}
+use Rattle.gateway.specs.declared.written.MdfWritten.{MdfWritten}
 
 -- the face of a call's answer, with the output that the call left, is the face of the call
 pub faced : (r : Applied) (out : List ℕ) (c : Call) (m : MdfApplied) → call r out ≡ c → m ≡ appliedFace r → face m out ≡ callFace c
@@ -28,3 +38,18 @@ faced-writing r out o m written shown = ap (λ (x : MdfWritten). faceWrote x out
 pub ordered : (img : List ℕ) (s : Shown) → ShownIn img s → Ordered s
 ordered img (Part from to) h = h .0
 ordered img Question h = tt
+
+-- what a way of reading finds in a block that was parsed
+pub placed : (read : List ℕ → Block → ℕ → Word) (img : List ℕ) (a i : ℕ) (p : Parsed) (b : Block) (w : Word) (m : MdfWord) → p ≡ parsed img a → p ≡ Whole b → w ≡ read img b i → m ≡ wordFace w → m ≡ placeFace read img a i
+placed read img a i p b w m parse whole word shown =
+    shown ∙ ap wordFace word ∙ ap (readFace (λ (x : Block). read img x i)) (sym whole ∙ parse)
+
+-- the same where none was parsed
+pub unplaced : (read : List ℕ → Block → ℕ → Word) (img : List ℕ) (a i : ℕ) (p : Parsed) (r : Refusal) (m : MdfWord) → p ≡ parsed img a → p ≡ Refused r → m ≡ unreadFace r → m ≡ placeFace read img a i
+unplaced read img a i p r m parse refused shown =
+    shown ∙ ap (readFace (λ (x : Block). read img x i)) (sym refused ∙ parse)
+
+-- a range that was parsed is a range as given again, and none is none
+pub ranged-again : (b : Bool) → isSet (flagOf b) ≡ b
+ranged-again true = refl
+ranged-again false = refl

@@ -1,7 +1,8 @@
 -- How C sees a parsed block and what was written. Fields that do not apply are 0. Assumes nothing: these are definitions.
-use mathlib.Core.Bool.{false}
+use mathlib.Core.Bool.{Bool, true, false, not}
 use mathlib.Core.List.{List}
 use Prim.Native.Nat.{ℕ}
+use lib.Dec.{eqb}
 use lib.Ieee.{binary64, ofBits}
 use Rattle.common.specs.Refusal.{numberOf, addressOf}
 use Rattle.blocks.specs.declared.Block.{Block}
@@ -13,7 +14,15 @@ use Rattle.writer.specs.declared.Written.the-variants.{Bytes, Unwritten}
 use Rattle.gateway.specs.Checked.{addressOr}
 use Rattle.gateway.specs.declared.block.MdfBlock.{MdfBlock}
 use Rattle.gateway.specs.declared.block.MdfParsed.{MdfParsed}
-use Rattle.gateway.specs.declared.block.MdfWritten.{MdfWritten}
+use Rattle.gateway.specs.declared.written.MdfWritten.{MdfWritten}
+
+-- how C has a truth: 1 or 0 as parsed, and any other than 0 is true as given
+abbrev pub flagOf : Bool → ℕ
+flagOf true = 1
+flagOf false = 0
+
+abbrev pub isSet : ℕ → Bool
+isSet n = not (eqb n 0)
 
 -- the record's fields, without its places in the image
 abbrev pub blockFace : Block → MdfBlock
@@ -34,7 +43,7 @@ blockFace b =
       valcount = b .valcount;
       kind = b .kind;
       precision = b .precision;
-      ranged = b .ranged;
+      ranged = flagOf (b .ranged);
     }
 
 -- the record of these fields, which stands nowhere in an image
@@ -52,7 +61,7 @@ recordOf b =
       flags = b .flags;
       refcount = b .refcount;
       valcount = b .valcount;
-      ranged = b .ranged;
+      ranged = isSet (b .ranged);
       minimum = b .minimum;
       maximum = b .maximum;
       minword = b .minword;
@@ -79,7 +88,7 @@ noBlock =
       valcount = 0;
       kind = 0;
       precision = 0;
-      ranged = false;
+      ranged = 0;
     }
 
 -- refusal 0: the block was parsed

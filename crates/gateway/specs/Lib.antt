@@ -1,3 +1,4 @@
 pub mod Checked
 pub mod Applied
 pub mod Block
+pub mod Place

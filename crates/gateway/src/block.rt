@@ -1,13 +1,10 @@
-// A block parsed and written.
+// A block as C sees it, and parsing one.
 use crate::checked::address_or;
 use blocks::Block;
 use blocks::Parsed;
-use writer::Written;
-use writer::write_words;
 ghost use mathlib.Core.Path.{_≡_};
 ghost use Rattle.blocks.specs.Block.{parsed};
-ghost use Rattle.writer.specs.Write.{writing};
-ghost use Rattle.gateway.specs.Block.{blockFace, recordOf, noBlock, parsedFace, writtenFace, faceWrote, writingFace};
+ghost use Rattle.gateway.specs.Block.{blockFace, noBlock, parsedFace};
 
 #[repr(C)]
 pub struct MdfBlock {
@@ -26,7 +23,8 @@ pub struct MdfBlock {
     pub valcount: u16,
     pub kind: u8,
     pub precision: u8,
-    pub ranged: bool,
+    // 1 or 0 as parsed; any other than 0 is written as 1 is.
+    pub ranged: u8,
 }
 
 #[repr(C)]
@@ -34,12 +32,6 @@ pub struct MdfParsed {
     pub refusal: u32,
     pub address: u64,
     pub block: MdfBlock,
-}
-
-#[repr(C)]
-pub struct MdfWritten {
-    pub refusal: u32,
-    pub length: u64,
 }
 
 fn block_face(b: Block) -> MdfBlock
@@ -61,33 +53,7 @@ fn block_face(b: Block) -> MdfBlock
         valcount: b.valcount,
         kind: b.kind,
         precision: b.precision,
-        ranged: b.ranged,
-    }
-}
-
-// The record of these fields; it stands nowhere in an image.
-fn record_of(b: MdfBlock) -> Block
-    ensures { λ r. ⌜ r ≡ recordOf b ⌝ }
-{
-    Block {
-        length: b.length,
-        links: b.links,
-        name: b.name,
-        unit: b.unit,
-        comment: b.comment,
-        inverse: b.inverse,
-        kind: b.kind,
-        precision: b.precision,
-        flags: b.flags,
-        refcount: b.refcount,
-        valcount: b.valcount,
-        ranged: b.ranged,
-        minimum: b.minimum,
-        maximum: b.maximum,
-        minword: b.minword,
-        maxword: b.maxword,
-        firstref: 0,
-        firstval: 0,
+        ranged: b.ranged as u8,
     }
 }
 
@@ -111,7 +77,7 @@ fn no_block() -> MdfBlock
         valcount: 0,
         kind: 0,
         precision: 0,
-        ranged: false,
+        ranged: 0,
     }
 }
 
@@ -131,31 +97,4 @@ pub extern "C" fn mdf_parse(image: &[u8], address: u64) -> MdfParsed
             block: no_block(),
         },
     }
-}
-
-fn written_face(w: Written) -> MdfWritten
-    ensures { λ r. ⌜ r ≡ writtenFace w ⌝ }
-{
-    match w {
-        Written::Bytes(n) => MdfWritten {
-            refusal: 0,
-            length: n as u64,
-        },
-        Written::Unwritten(r) => MdfWritten {
-            refusal: r.number() as u32,
-            length: 0,
-        },
-    }
-}
-
-#[no_mangle]
-pub extern "C" fn mdf_write(
-    block: MdfBlock,
-    refs: &[u64],
-    words: &[u64],
-    out: &mut [u8],
-) -> MdfWritten
-    ensures { λ r. ⌜ faceWrote r (now (out .exit)) ≡ writingFace (writing (recordOf block) (now (refs .entry)) (now (words .entry)) (now (out .entry))) ⌝ }
-{
-    written_face(write_words(record_of(block), refs, words, out))
 }

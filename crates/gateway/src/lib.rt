@@ -2,3 +2,5 @@
 pub mod applied;
 pub mod block;
 pub mod checked;
+pub mod place;
+pub mod written;

@@ -1,8 +1,8 @@
--- `gateway::block::mdf_write` meets its contract. Assumes nothing.
+-- `gateway::written::mdf_write` meets its contract. Assumes nothing.
 use Rattle.gateway.proofs.Faces.{faced-writing}
 use borrow.Author.Needs.{needs}
-use Rattle.gateway.proofs.block.mdf_write.Statement.{statement}
-use Rattle.gateway.proofs.block.mdf_write.Tie as tie
+use Rattle.gateway.proofs.written.mdf_write.Statement.{statement}
+use Rattle.gateway.proofs.written.mdf_write.Tie as tie
 
 record-of-requires : tie.Need-record-of-requires
 record-of-requires c κs = search needs

@@ -1,7 +1,7 @@
--- `gateway::block::written_face` meets its contract. Assumes nothing.
+-- `gateway::written::written_face` meets its contract. Assumes nothing.
 use borrow.Author.Needs.{needs}
-use Rattle.gateway.proofs.block.written_face.Statement.{statement}
-use Rattle.gateway.proofs.block.written_face.Tie as tie
+use Rattle.gateway.proofs.written.written_face.Statement.{statement}
+use Rattle.gateway.proofs.written.written_face.Tie as tie
 
 enum-known-w : tie.Need-enum-known-w
 enum-known-w c = search needs
