@@ -188,16 +188,15 @@ mdf_shown mdf_translate(const uint8_t *image, size_t image_len, uint64_t address
  * - its values, 8 bytes each, val_count of them, from address + 64 + 8 * references on, and 16 more where there is a range. */
 mdf_parsed mdf_parse(const uint8_t *image, size_t image_len, uint64_t address);
 
-/* Reads one reference of the block at `address`, the first of which has index 0. Answers its word, which is the address of a block or 0; or that
- * the block has no such reference, for any index from its number of references on; or refuses as mdf_parse does, with 1, 2 or 4. */
+/* Reads one reference of the block at `address`, the first of which has index 0. Answers its word, which is a link; or that the block has no such
+ * reference, for every index from its number of references on; or refusal 1, 2 or 4, as mdf_parse does. */
 mdf_word mdf_reference(const uint8_t *image, size_t image_len, uint64_t address, uint64_t index);
 
-/* As mdf_reference, for a value, val_count of which a block has. Answers its 64 bits: those of a double, or of a whole number where the block's type
- * takes its values as such, as the masks of bit groups. */
+/* As mdf_reference, for one of the block's val_count values. Its word has the 64 bits of a double, or of a mask in bit groups. */
 mdf_word mdf_value_word(const uint8_t *image, size_t image_len, uint64_t address, uint64_t index);
 
 /* Writes a block with these references and these values, each value as its 64 bits.
- * Of `block` it takes the four fixed links, kind, precision, flags, ref_count and, where `ranged` is true, the range. A range bound that is a NaN
+ * Of `block` it takes the four fixed links, kind, precision, flags, ref_count and, where `ranged` is not 0, the range. A range bound that is a NaN
  * is written as its word if that is a NaN too, else as 0x7ff8000000000000; any other bound as it is, whatever its word. The link count is
  * 4 + refs_len, the value count words_len, the block length what is written.
  * Answers how many bytes it wrote; or refusal 9, or 8. Afterwards the block stands in `out` from byte 0 on and the bytes behind it are as they

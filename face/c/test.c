@@ -576,7 +576,7 @@ static mdf_block all_fields(void) {
                    .val_count = 0x6162,
                    .kind = 8,
                    .precision = 9,
-                   .ranged = true};
+                   .ranged = 1};
     return b;
 }
 
@@ -609,6 +609,13 @@ static void writes(const char *name, mdf_block b, size_t room, uint32_t refusal)
     give_back_out(out);
 }
 
+/* Any other than 0 says that there is a range. */
+static void writes_with_ranged(const char *name, uint8_t ranged) {
+    mdf_block b = all_fields();
+    b.ranged = ranged;
+    writes(name, b, built_len, 0);
+}
+
 /* Parsing what was written returns every field, the two counts and the block length as written. */
 static void parses_what_was_written(void) {
     mdf_block wanted = all_fields();
@@ -629,13 +636,16 @@ static void write_cases(void) {
     writes("write a block with every field, just enough room", all_fields(), built_len, 0);
     writes("write: 8 Room, one byte short", all_fields(), built_len - 1, MDF_REFUSED_ROOM);
     writes("write: 8 Room, no room", all_fields(), 0, MDF_REFUSED_ROOM);
+    writes_with_ranged("write: ranged 2 counts as 1", 2);
+    writes_with_ranged("write: ranged 128 counts as 1", 128);
+    writes_with_ranged("write: ranged 255 counts as 1", 255);
     parses_what_was_written();
 }
 
 /* No references, no values and no range: 64 bytes, with empty slices. */
 static void write_smallest(void) {
     uint64_t nothing = 0;
-    mdf_block b = {.range_min = 1, .range_max = 2, .min_word = 3, .max_word = 4, .ranged = false};
+    mdf_block b = {.range_min = 1, .range_max = 2, .min_word = 3, .max_word = 4, .ranged = 0};
     uint8_t *out = lent_out(ROOM);
     begin();
     uint64_t address = of_refs(0, NULL, 0);
@@ -664,6 +674,97 @@ static void write_counts(void) {
     writes_so_many("write 65,535 values: 8 Room", 65535, 64 + 8 * 65535 - 1, MDF_REFUSED_ROOM);
 }
 
+/* ---- reading by place ---- */
+
+typedef mdf_word (*reader)(const uint8_t *image, size_t image_len, uint64_t address, uint64_t index);
+
+static void reads(const char *name, reader read, uint64_t address, uint64_t index, mdf_word wanted) {
+    uint8_t *image = lent_image();
+    mdf_word w = read(image, built_len, address, index);
+    expect(w.refusal == wanted.refusal && w.found == wanted.found && w.address == wanted.address && w.word == wanted.word, name);
+    give_back_image(image, name);
+}
+
+static void finds(const char *name, reader read, uint64_t address, uint64_t index, uint64_t word) {
+    mdf_word wanted = {.found = 1, .word = word};
+    reads(name, read, address, index, wanted);
+}
+
+/* No place at `count`, nor further on: not at 2^61 either, which times 8 wraps to 0, the first place. */
+static void ends_at(const char *name, reader read, uint64_t address, uint64_t count) {
+    static const mdf_word none;
+    reads(name, read, address, count, none);
+    reads(name, read, address, count + 65536, none);
+    reads(name, read, address, UINT64_C(1) << 61, none);
+    reads(name, read, address, UINT64_MAX, none);
+}
+
+/* Refused alike for an index that the block would have and for one that no block has. */
+static void reading_is_refused(const char *name, uint64_t address, uint32_t refusal) {
+    mdf_word wanted = {.refusal = refusal, .address = address};
+    reads(name, mdf_reference, address, 0, wanted);
+    reads(name, mdf_reference, address, UINT64_MAX, wanted);
+    reads(name, mdf_value_word, address, 0, wanted);
+    reads(name, mdf_value_word, address, UINT64_MAX, wanted);
+}
+
+static void place_refusals(void) {
+    begin();
+    plan damaged = {.kind = 1, .links = UINT64_MAX};
+    uint64_t words = text("no conversion"), leaf = block(damaged);
+    reading_is_refused("by place: 1 Outside, one byte too far", built_len - 23, MDF_REFUSED_OUTSIDE);
+    reading_is_refused("by place: 1 Outside, the largest address", UINT64_MAX, MDF_REFUSED_OUTSIDE);
+    reading_is_refused("by place: 2 NotConversion", words, MDF_REFUSED_NOT_CONVERSION);
+    reading_is_refused("by place: 4 Short, a link count that no image holds", leaf, MDF_REFUSED_SHORT);
+    build_all_fields();
+    built_len--;
+    reading_is_refused("by place: 4 Short, the image ends inside the last value", 0, MDF_REFUSED_SHORT);
+    built_len = 0;
+    reading_is_refused("by place: 1 Outside, an empty image", 0, MDF_REFUSED_OUTSIDE);
+}
+
+/* The references and the values of a block that some_refs and some_words were built into. */
+static void reads_all(const char *name, uint64_t address) {
+    for (size_t i = 0; i < COUNT_OF(some_refs); i++) finds(name, mdf_reference, address, i, some_refs[i]);
+    for (size_t i = 0; i < COUNT_OF(some_words); i++) finds(name, mdf_value_word, address, i, some_words[i]);
+    ends_at(name, mdf_reference, address, COUNT_OF(some_refs));
+    ends_at(name, mdf_value_word, address, COUNT_OF(some_words));
+}
+
+static void place_cases(void) {
+    begin();
+    uint64_t between = of_words(8, some_refs, COUNT_OF(some_refs), some_words, COUNT_OF(some_words));
+    text("more of the image");
+    reads_all("by place: a block with more behind it", between);
+    uint64_t empty = of_refs(0, NULL, 0);
+    ends_at("by place: no references", mdf_reference, empty, 0);
+    ends_at("by place: no values", mdf_value_word, empty, 0);
+    build_all_fields();
+    reads_all("by place: the values stand behind the range, the count of links decides", 0);
+}
+
+/* With a link count below 4 the four fixed links are there all the same, and no reference is. */
+static void few_links_cases(void) {
+    static const uint64_t words[] = {5, 6, 7};
+    for (uint8_t links = 0; links < 4; links++) {
+        begin();
+        plan plain = {.kind = 1, .words = words, .word_count = 3, .length = 64};
+        uint64_t address = block(plain);
+        built[address + 16] = links;
+        ends_at("by place: fewer than 4 links", mdf_reference, address, 0);
+        finds("by place: fewer than 4 links, the first value", mdf_value_word, address, 0, 5);
+        finds("by place: fewer than 4 links, the last value", mdf_value_word, address, 2, 7);
+        ends_at("by place: fewer than 4 links, no more values", mdf_value_word, address, 3);
+        plan with_range = {.kind = 1, .words = words, .word_count = 3};
+        address = block(with_range);
+        built[address + 16] = links;
+        built[address + 62] = 1; /* one value, behind two words of a range */
+        ends_at("by place: fewer than 4 links and a range", mdf_reference, address, 0);
+        finds("by place: fewer than 4 links, a value behind the range", mdf_value_word, address, 0, 7);
+        ends_at("by place: fewer than 4 links, one value behind the range", mdf_value_word, address, 1);
+    }
+}
+
 int main(void) {
     linear_cases();
     rounding_cases();
@@ -686,6 +787,9 @@ int main(void) {
     write_cases();
     write_smallest();
     write_counts();
+    place_refusals();
+    place_cases();
+    few_links_cases();
     printf("C face: %d cases passed, %d failed\n", passed, failed);
     return failed ? 1 : 0;
 }
