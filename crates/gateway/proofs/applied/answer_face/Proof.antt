@@ -1,4 +1,7 @@
 -- `gateway::applied::answer_face` meets its contract. Assumes nothing.
+use mathlib.Core.Path.{sym, ap}
+use Rattle.conversion.specs.declared.logic.Answer.{Answer}
+use Rattle.gateway.specs.Applied.{answerFace}
 use borrow.Author.Needs.{needs}
 use Rattle.gateway.proofs.applied.answer_face.Statement.{statement}
 use Rattle.gateway.proofs.applied.answer_face.Tie as tie
@@ -37,7 +40,9 @@ returns-2 : tie.Need-returns-2
 returns-2 c = rw (c .before .answer2 .given .1)
 
 returns-3 : tie.Need-returns-3
-returns-3 c = rw (c .enum-told .given .1)
+returns-3 c =
+    let s = c .before .before in
+    ap (λ (x : Answer). answerFace x (s .args .checked) (s .args .applied)) (sym (c .enum-told .given .1))
 
 returns-4 : tie.Need-returns-4
 returns-4 c = rw (c .enum-told2 .given .1)

@@ -1,4 +1,7 @@
 -- `gateway::block::mdf_parse` meets its contract. Assumes nothing.
+use mathlib.Core.Path.{sym, ap, _∙_}
+use Rattle.gateway.specs.Block.{parsedFace}
+use Rattle.gateway.specs.declared.block.MdfBlock.{MdfBlock}
 use borrow.Author.Needs.{needs}
 use Rattle.gateway.proofs.block.mdf_parse.Statement.{statement}
 use Rattle.gateway.proofs.block.mdf_parse.Tie as tie
@@ -31,7 +34,9 @@ no-block-requires : tie.Need-no-block-requires
 no-block-requires c κs = search needs
 
 returns : tie.Need-returns
-returns c = rw (← (c .before .before .before .before .parse .ensures), c .before .before .b .given .1, c .block-face .ensures)
+returns c =
+    ap (λ (b : MdfBlock). record { refusal = 0; address = 0; block = b }) (c .block-face .ensures)
+    ∙ ap parsedFace (sym (c .before .before .b .given .1) ∙ c .before .before .before .before .parse .ensures)
 
 returns-2 : tie.Need-returns-2
 returns-2 c = rw (← (c .before .before .before .before .before .before .before .parse .ensures), c .before .before .before .before .before .r .given .1, c .before .before .before .number .ensures, c .before .address-or .ensures, c .before .before .address .ensures, c .no-block .ensures)

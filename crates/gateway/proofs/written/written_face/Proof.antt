@@ -1,4 +1,7 @@
 -- `gateway::written::written_face` meets its contract. Assumes nothing.
+use mathlib.Core.Path.{sym, ap, _∙_}
+use Prim.Native.Nat.{ℕ}
+use Rattle.gateway.specs.Block.{writtenFace}
 use borrow.Author.Needs.{needs}
 use Rattle.gateway.proofs.written.written_face.Statement.{statement}
 use Rattle.gateway.proofs.written.written_face.Tie as tie
@@ -16,10 +19,11 @@ cast-t7 : tie.Need-cast-t7
 cast-t7 c = search needs
 
 returns : tie.Need-returns
-returns c = rw (c .before .w .given .1)
+returns c = ap writtenFace (sym (c .before .w .given .1))
 
 returns-2 : tie.Need-returns-2
-returns-2 c = rw (c .before .before .w2 .given .1, c .number .ensures)
+returns-2 c =
+    ap (λ (n : ℕ). record { refusal = n; length = 0 }) (c .number .ensures) ∙ ap writtenFace (sym (c .before .before .w2 .given .1))
 
 pub written-face-spec : {M : Type 1} → statement M
 written-face-spec =
