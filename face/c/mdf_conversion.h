@@ -128,7 +128,7 @@ typedef struct {
                                                 6 range to value, 7 value to text, 8 range to text, 9 text to value, 10 text to text,
                                                 11 bit groups; any other is unknown */
     uint8_t precision;
-    uint8_t ranged;                          /* whether there is a range: 1 or 0 as parsed; as given, any other than 0 counts as 1 */
+    uint8_t ranged;                          /* whether there is a range: 1 or 0 out of parsing; for writing any number but 0 says so */
 } mdf_block;
 
 /* The answer of parsing. */

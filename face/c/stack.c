@@ -37,6 +37,8 @@ static void parse_and_write(void) {
     refusal = p.refusal | mdf_write(p.block, words, 2, words, 2, out, sizeof out).refusal;
 }
 
+static void read_by_place(void) { refusal = mdf_reference(image, built_len, root, 0).refusal | mdf_value_word(image, built_len, root, 0).refusal; }
+
 static void (*job)(void);
 static void run(void) { job(); }
 
@@ -98,14 +100,15 @@ static size_t most_of(uint8_t kind, void (*f)(void)) {
 
 int main(void) {
     size_t walked = most_of(11, check), by_key = most_of(7, apply), by_range = most_of(8, apply), by_bits = most_of(11, apply);
-    size_t by_text = most_of(10, translate), one_block = most_of(11, parse_and_write);
+    size_t by_text = most_of(10, translate), one_block = most_of(11, parse_and_write), one_word = most_of(11, read_by_place);
     build(11, 11);
     apply();
     if (answer.kind != MDF_KIND_TEXT || answer.checked != LEVELS || answer.applied != LEVELS || refusal != 0) {
-        printf("stack: the deepest bit groups gave no text, or a block was not written\n");
+        printf("stack: the deepest bit groups gave no text, or a block was not written or read\n");
         return 1;
     }
-    printf("stack below the caller at 21 levels, bytes: check %zu, type 7 %zu, type 8 %zu, bit groups %zu, type 10 shown %zu; one block %zu\n",
-           walked, by_key, by_range, by_bits, by_text, one_block);
+    printf("stack below the caller at 21 levels, bytes: check %zu, type 7 %zu, type 8 %zu, bit groups %zu, type 10 shown %zu; one block %zu, "
+           "one word %zu\n",
+           walked, by_key, by_range, by_bits, by_text, one_block, one_word);
     return 0;
 }

@@ -609,7 +609,7 @@ static void writes(const char *name, mdf_block b, size_t room, uint32_t refusal)
     give_back_out(out);
 }
 
-/* Any other than 0 says that there is a range. */
+/* Any number but 0 says that there is a range. */
 static void writes_with_ranged(const char *name, uint8_t ranged) {
     mdf_block b = all_fields();
     b.ranged = ranged;

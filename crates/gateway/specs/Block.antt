@@ -16,7 +16,7 @@ use Rattle.gateway.specs.declared.block.MdfBlock.{MdfBlock}
 use Rattle.gateway.specs.declared.block.MdfParsed.{MdfParsed}
 use Rattle.gateway.specs.declared.written.MdfWritten.{MdfWritten}
 
--- how C has a truth: 1 or 0 as parsed, and any other than 0 is true as given
+-- a truth as C has it: 1 or 0 out of parsing; for writing any number but 0 is true
 abbrev pub flagOf : Bool → ℕ
 flagOf true = 1
 flagOf false = 0

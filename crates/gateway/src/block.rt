@@ -23,7 +23,7 @@ pub struct MdfBlock {
     pub valcount: u16,
     pub kind: u8,
     pub precision: u8,
-    // 1 or 0 as parsed; any other than 0 is written as 1 is.
+    // 1 or 0 out of parsing; for writing any number but 0 says that there is a range.
     pub ranged: u8,
 }
 
