@@ -1,4 +1,4 @@
-/* MDF 4 conversion blocks (##CC): checked, applied to values, parsed and written.
+/* MDF 4 conversion blocks (##CC): checked, applied to values, parsed, read by place and written.
  *
  * Every call works on an image that is lent to it: the bytes of an MDF 4 file, or any bytes at all. An address is a place in the image, counted
  * from 0. No image, address, value or length makes a call misbehave or run on: a call answers, or it refuses with a number.
@@ -29,14 +29,13 @@
  *
  * links it. The archive is for x86-64 and needs no library: of the C library it calls memcpy alone.
  *
- * What a caller owes, of every pointer that stands before a length:
+ * What a caller owes. Of every pointer that stands before a length:
  * - It points to that many elements. It is not null and fits its type's alignment, even where the length is 0: an empty slice may point to any
  *   object of its type, such as a local variable, and nothing is read or written there.
  * - A slice has at most PTRDIFF_MAX bytes.
  * - `out` shares no byte with another slice of the call, and no other thread writes to a slice, or reads `out`, while the call runs.
- *
- * And the float environment that a C program starts with: results round to nearest, and no subnormal number is flushed to zero. After fesetround, or
- * in a program that is linked with -ffast-math, a call can answer otherwise.
+ * Of the float environment: it is the one that a C program starts with, where results round to nearest and no subnormal number is flushed to zero.
+ * After fesetround, or in a program that is linked with -ffast-math, a call can answer otherwise.
  *
  * A call keeps nothing, and uses no heap and no variable of its own. Calls may run at the same time.
  *
@@ -183,7 +182,7 @@ mdf_applied mdf_apply_other(const uint8_t *image, size_t image_len, uint64_t add
 mdf_shown mdf_translate(const uint8_t *image, size_t image_len, uint64_t address, uint32_t limit, const uint8_t *question, size_t question_len);
 
 /* Reads the fields of the one block at `address`. Answers them, or refusal 1, 2 or 4.
- * The parsed block lies whole in the image, all numbers little-endian and unaligned:
+ * The parsed block lies whole in the image, all numbers little-endian and unaligned; mdf_reference and mdf_value_word read these by place:
  * - its references, 8 bytes each, from address + 56 on: links - 4 of them, none where links is below 4;
  * - its values, 8 bytes each, val_count of them, from address + 64 + 8 * references on, and 16 more where there is a range. */
 mdf_parsed mdf_parse(const uint8_t *image, size_t image_len, uint64_t address);
