@@ -17,7 +17,29 @@ pub enum Value<'a> {
     Other,
 }
 
+/// An unsigned whole number.
+impl From<u64> for Value<'_> {
+    fn from(number: u64) -> Self {
+        Value::UnsignedInteger(number)
+    }
+}
+
+/// A signed whole number.
+impl From<i64> for Value<'_> {
+    fn from(number: i64) -> Self {
+        Value::SignedInteger(number)
+    }
+}
+
+/// A float.
+impl From<f64> for Value<'_> {
+    fn from(number: f64) -> Self {
+        Value::Float(number)
+    }
+}
+
 /// What a conversion gives for a value.
+#[must_use]
 #[derive(Clone, Copy, Debug, PartialEq)]
 pub enum Answer {
     /// A number.
@@ -31,12 +53,39 @@ pub enum Answer {
 }
 
 /// An answer, and how many blocks were visited for it.
+#[must_use]
 #[derive(Clone, Copy, Debug, PartialEq)]
 pub struct Applied {
     /// What the conversion gives.
     pub answer: Answer,
     /// The visits of the check and of applying.
     pub visits: Visits,
+}
+
+impl Applied {
+    /// The bytes of an [`Answer::Text`], from the front of the `out` that was lent to [`apply`]. `None` for any other answer, and where `out` is
+    /// shorter than the text, as only another buffer can be.
+    ///
+    /// ```
+    /// use mdf_conversion::{apply, Refusal, Value};
+    ///
+    /// let image = std::fs::read("../../samples/tractor.mdf").unwrap();
+    /// let mut out = [0; 64];
+    ///
+    /// // Transmission, bit groups, stands at 2488; torque, a linear conversion, at 528.
+    /// let transmission = apply(&image, 2488, 4096, Value::from(6u64), &mut out)?;
+    /// assert_eq!(transmission.text(&out), Some(b"Gear = Low|PTO".as_slice()));
+    /// let torque = apply(&image, 528, 4096, Value::from(-3i64), &mut out)?;
+    /// assert_eq!(torque.text(&out), None);
+    /// # Ok::<(), Refusal>(())
+    /// ```
+    #[must_use]
+    pub fn text<'a>(&self, out: &'a [u8]) -> Option<&'a [u8]> {
+        match self.answer {
+            Answer::Text(length) => out.get(..length),
+            Answer::Number(_) | Answer::Unchanged | Answer::Unknown => None,
+        }
+    }
 }
 
 /// Checks as [`check`](crate::check) does, then applies the conversion at `address` to a value.
@@ -124,6 +173,7 @@ fn answer_of(applied: &raw::Applied) -> Answer {
 /// // A linear conversion stands at 528.
 /// assert_eq!(translate(&image, 528, 4096, b"E1"), b"E1");
 /// ```
+#[must_use]
 pub fn translate<'a>(image: &'a [u8], address: u64, limit: u32, question: &'a [u8]) -> &'a [u8] {
     // SAFETY: each pointer and length are those of one slice.
     let shown = unsafe { raw::mdf_translate(image.as_ptr(), image.len(), address, limit, question.as_ptr(), question.len()) };

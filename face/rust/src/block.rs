@@ -19,6 +19,7 @@ pub struct PhysicalRange {
 /// The fields of a ##CC block. A link is an address, and `None` where it is 0, which leads nowhere.
 ///
 /// References and values are read from the image by [`cc_ref`](Self::cc_ref) and [`cc_val`](Self::cc_val).
+#[must_use]
 #[derive(Clone, Copy, Debug, PartialEq)]
 pub struct ConversionBlock {
     /// The block's length in bytes, as written in its header.

@@ -13,13 +13,12 @@
 //! let mut out = [0; 64];
 //!
 //! // Torque, a linear conversion, stands at 528.
-//! let torque = apply(&image, 528, 4096, Value::SignedInteger(-3), &mut out)?;
+//! let torque = apply(&image, 528, 4096, Value::from(-3i64), &mut out)?;
 //! assert_eq!(torque.answer, Answer::Number(-0.375));
 //!
 //! // Transmission, bit groups, stands at 2488.
-//! let transmission = apply(&image, 2488, 4096, Value::UnsignedInteger(6), &mut out)?;
-//! assert_eq!(transmission.answer, Answer::Text(14));
-//! assert_eq!(&out[..14], b"Gear = Low|PTO");
+//! let transmission = apply(&image, 2488, 4096, Value::from(6u64), &mut out)?;
+//! assert_eq!(transmission.text(&out), Some(b"Gear = Low|PTO".as_slice()));
 //! # Ok::<(), Refusal>(())
 //! ```
 //!
@@ -37,8 +36,9 @@
 #![no_std]
 #![warn(missing_docs)]
 
-#[cfg(not(target_arch = "x86_64"))]
-compile_error!("the archive of the proved code is for x86-64");
+// The archive has machine code, and the layouts in `raw` are those of this target alone. The build script says the same, before it looks for the archive.
+#[cfg(not(all(target_arch = "x86_64", target_os = "linux", target_pointer_width = "64")))]
+compile_error!("the archive of the proved code is for x86-64 Linux");
 
 #[cfg(test)]
 extern crate std;
@@ -54,4 +54,4 @@ pub use applying::{apply, translate, Answer, Applied, Value};
 pub use block::{ConversionBlock, PhysicalRange};
 pub use checking::check;
 pub use refusal::{Refusal, Visits};
-pub use types::ConversionType;
+pub use types::{ConversionType, UnknownType};

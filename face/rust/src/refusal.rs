@@ -56,6 +56,7 @@ pub enum Refusal {
 
 impl Refusal {
     /// The refusal's number, 1 to 9.
+    #[must_use]
     pub fn number(&self) -> u32 {
         match self {
             Refusal::Outside(_) => 1,
@@ -71,6 +72,7 @@ impl Refusal {
     }
 
     /// The refusal's name, such as `Deep`.
+    #[must_use]
     pub fn name(&self) -> &'static str {
         match self {
             Refusal::Outside(_) => "Outside",
@@ -86,6 +88,7 @@ impl Refusal {
     }
 
     /// The address of the block or link, for 1 to 6.
+    #[must_use]
     pub fn address(&self) -> Option<u64> {
         match *self {
             Refusal::Outside(address)
@@ -99,6 +102,7 @@ impl Refusal {
     }
 
     /// The visits of both walks, for 7 and 8 of an application.
+    #[must_use]
     pub fn visits(&self) -> Option<Visits> {
         match *self {
             Refusal::Formula(visits) => Some(visits),

@@ -29,7 +29,26 @@ pub enum ConversionType {
     /// 11: bit groups, joined to one text.
     BitfieldText,
     /// Any other number. The value stays as it is.
-    Unknown(u8),
+    Unknown(UnknownType),
+}
+
+/// The number of a type that is none of the known ones, 0 to 11. Only [`ConversionType::from_u8`] makes one, so that no known type is called unknown.
+///
+/// ```
+/// use mdf_conversion::ConversionType;
+///
+/// let ConversionType::Unknown(unknown) = ConversionType::from_u8(42) else { panic!("42 is known") };
+/// assert_eq!(unknown.to_u8(), 42);
+/// ```
+#[derive(Clone, Copy, Debug, PartialEq, Eq, Hash)]
+pub struct UnknownType(u8);
+
+impl UnknownType {
+    /// The type's number.
+    #[must_use]
+    pub fn to_u8(self) -> u8 {
+        self.0
+    }
 }
 
 // Each at the place of its number.
@@ -55,16 +74,18 @@ impl ConversionType {
     /// use mdf_conversion::ConversionType;
     ///
     /// assert_eq!(ConversionType::from_u8(11), ConversionType::BitfieldText);
-    /// assert_eq!(ConversionType::from_u8(42), ConversionType::Unknown(42));
+    /// assert!(matches!(ConversionType::from_u8(42), ConversionType::Unknown(_)));
     /// ```
+    #[must_use]
     pub fn from_u8(number: u8) -> ConversionType {
-        KNOWN.get(usize::from(number)).map_or(ConversionType::Unknown(number), |known| known.0)
+        KNOWN.get(usize::from(number)).map_or(ConversionType::Unknown(UnknownType(number)), |known| known.0)
     }
 
     /// The type's number.
+    #[must_use]
     pub fn to_u8(self) -> u8 {
         match self {
-            ConversionType::Unknown(number) => number,
+            ConversionType::Unknown(unknown) => unknown.to_u8(),
             known => KNOWN.iter().position(|entry| entry.0 == known).expect("every known type is listed") as u8,
         }
     }

@@ -1,4 +1,5 @@
 //! Every line of document 01's "Cases", and every refusal from 1 to 9, through the safe functions.
+#[allow(dead_code)]
 mod image;
 
 use image::Image;
@@ -236,7 +237,7 @@ fn all_fields() -> ConversionBlock {
         cc_md_unit: Some(u64::MAX),
         cc_md_comment: Some(3),
         cc_cc_inverse: Some(0x0102030405060708),
-        cc_type: ConversionType::Unknown(200),
+        cc_type: ConversionType::from_u8(200),
         cc_precision: 9,
         cc_flags: 0x4142,
         cc_ref_count: 0x5152,

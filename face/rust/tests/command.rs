@@ -1,102 +1,70 @@
-//! The command `mdf-convert`, run as a user runs it.
+//! What the command `mdf-convert` answers.
+#[allow(dead_code)]
+mod command_line;
 #[allow(dead_code)]
 mod image;
 
+use command_line::{complains, on_sample, prints, run, run_with, Temporary, SAMPLE};
 use image::Image;
-use std::fs::{self, File};
-use std::io::{BufRead, BufReader, Write};
-use std::path::{Path, PathBuf};
-use std::process::{Child, Command, Stdio};
-use std::sync::mpsc::{channel, Receiver};
-use std::thread;
-use std::time::Duration;
-
-const SAMPLE: &str = "../../samples/tractor.mdf";
-
-struct Ended {
-    status: i32,
-    out: String,
-    error: String,
-}
-
-fn start(words: &[&str], out: Stdio) -> Child {
-    let program = env!("CARGO_BIN_EXE_mdf-convert");
-    Command::new(program).args(words).stdin(Stdio::piped()).stdout(out).stderr(Stdio::piped()).spawn().expect("the command starts")
-}
-
-fn run_with(words: &[&str], input: &[u8]) -> Ended {
-    let mut child = start(words, Stdio::piped());
-    // A command that does not read its input may have ended by now.
-    let _ = child.stdin.take().unwrap().write_all(input);
-    let output = child.wait_with_output().expect("the command ends");
-    Ended {
-        status: output.status.code().expect("it ends by itself"),
-        out: String::from_utf8(output.stdout).unwrap(),
-        error: String::from_utf8(output.stderr).unwrap(),
-    }
-}
-
-fn run(words: &[&str]) -> Ended {
-    run_with(words, b"")
-}
-
-/// Words for the sample image, as a line of them.
-fn on_sample(line: &str) -> Vec<&str> {
-    std::iter::once(SAMPLE).chain(line.split_whitespace()).collect()
-}
-
-fn prints(line: &str, status: i32, out: &str) {
-    let ended = run(&on_sample(line));
-    assert_eq!((ended.status, ended.out.as_str(), ended.error.as_str()), (status, out, ""), "{line}");
-}
-
-/// One line on standard error, nothing on standard output, status 2.
-fn complains(words: &[&str], line: &str) {
-    let ended = run(words);
-    assert_eq!((ended.status, ended.out.as_str(), ended.error), (2, "", format!("mdf-convert: {line}\n")), "{words:?}");
-}
-
-/// An image in a file, which is removed again.
-struct Temporary(PathBuf);
-
-impl Temporary {
-    fn new(name: &str, image: &Image) -> Temporary {
-        let path = std::env::temp_dir().join(format!("mdf-convert-{}-{name}.mdf", std::process::id()));
-        fs::write(&path, &image.bytes).expect("the image is written");
-        Temporary(path)
-    }
-
-    fn path(&self) -> &str {
-        self.0.to_str().unwrap()
-    }
-}
-
-impl Drop for Temporary {
-    fn drop(&mut self) {
-        let _ = fs::remove_file(&self.0);
-    }
-}
 
 #[test]
 fn answers() {
-    prints("528 signed -3", 0, "number -0.375\nchecked 1 applied 1\n");
-    prints("1048 unsigned 15", 0, "number 40\nchecked 1 applied 1\n");
-    prints("688 unsigned 0", 0, "number 0.16666666666666666\nchecked 1 applied 1\n");
-    prints("528 float 1e300", 0, "number 1.25e299\nchecked 1 applied 1\n");
-    prints("528 float nan", 0, "number NaN\nchecked 1 applied 1\n");
-    prints("528 float -inf", 0, "number -inf\nchecked 1 applied 1\n");
+    prints("528 signed -3", 0, "number -0.375 Nm\nchecked 1 applied 1\n");
+    prints("1048 unsigned 15", 0, "number 40 l\nchecked 1 applied 1\n");
+    prints("688 unsigned 0", 0, "number 0.16666666666666666 l/h\nchecked 1 applied 1\n");
+    prints("528 float 1e300", 0, "number 1.25e299 Nm\nchecked 1 applied 1\n");
+    prints("528 float nan", 0, "number NaN Nm\nchecked 1 applied 1\n");
+    prints("528 float -inf", 0, "number -inf Nm\nchecked 1 applied 1\n");
     prints("2488 unsigned 6", 0, "text Gear = Low|PTO\nchecked 2 applied 2\n");
     prints("2384 text E1", 0, "text oil pressure low\nchecked 1 applied 1\n");
     prints("464 unsigned 18446744073709551615", 0, "unchanged\nchecked 1 applied 1\n");
     prints("3264 text blue", 0, "unknown\nchecked 1 applied 1\n");
-    prints("3152 unsigned 50", 0, "number -15\nchecked 3 applied 2\n");
+    prints("3152 unsigned 50", 0, "number -15 °C\nchecked 3 applied 2\n");
 }
 
 #[test]
 fn addresses_are_decimal_or_hexadecimal() {
-    prints("0x210 signed -9223372036854775808", 0, "number -1152921504606847000\nchecked 1 applied 1\n");
+    prints("0x210 signed -9223372036854775808", 0, "number -1.152921504606847e18 Nm\nchecked 1 applied 1\n");
     prints("0x9B8 unsigned 0", 0, "text PTO\nchecked 2 applied 2\n");
     prints("0xffffffffffffffff unsigned 0", 3, "refused 1 Outside at 18446744073709551615\nchecked 0 applied 0\n");
+}
+
+#[test]
+fn whole_numbers_are_decimal_or_hexadecimal() {
+    for (words, number) in [
+        ("unsigned 0xff", "31.875"),
+        ("unsigned 0xFF", "31.875"),
+        ("unsigned 0xffffffffffffffff", "2.305843009213694e18"),
+        ("signed 0x10", "2"),
+        ("signed -0x10", "-2"),
+        ("signed +0x10", "2"),
+        ("signed +5", "0.625"),
+        ("signed -0x8000000000000000", "-1.152921504606847e18"),
+        ("signed 0x7fffffffffffffff", "1.152921504606847e18"),
+    ] {
+        prints(&format!("528 {words}"), 0, &format!("number {number} Nm\nchecked 1 applied 1\n"));
+    }
+}
+
+#[test]
+fn no_digit_of_a_number_is_false() {
+    let mut image = Image::new();
+    let as_it_is = image.block(1, &[], &[0.0, 1.0]);
+    let file = Temporary::new("digits", &image);
+    for (value, number) in [
+        ("2305843009213693952", "2.305843009213694e18"),
+        ("-1e16", "-1e16"),
+        ("9999999999999998", "9999999999999998"),
+        ("9007199254740993", "9007199254740992"),
+        ("0.00001", "0.00001"),
+        ("0.0000099", "9.9e-6"),
+        ("-5e-324", "-5e-324"),
+        ("0.1", "0.1"),
+    ] {
+        let ended = run(&[file.path(), &as_it_is.to_string(), "float", value]);
+        assert_eq!(ended.out, format!("number {number}\nchecked 1 applied 1\n"));
+        assert_eq!(number.parse::<f64>(), value.parse::<f64>());
+    }
 }
 
 #[test]
@@ -131,47 +99,6 @@ fn a_text_is_one_line_however_long() {
 }
 
 #[test]
-fn many_values() {
-    let groups = run_with(&on_sample("2488 unsigned -"), b"6\n0\n2");
-    assert_eq!((groups.status, groups.out.as_str()), (0, "text Gear = Low|PTO\ntext PTO\ntext Gear = Low|PTO\n"));
-    let faults = run_with(&on_sample("2384 text -"), b"E1\n\nE1 \n-\n");
-    let rest = "text fault not known\n".repeat(3);
-    assert_eq!((faults.status, faults.out), (0, format!("text oil pressure low\n{rest}")));
-    let slip = run_with(&on_sample("816 float -"), b"1\n2\n");
-    assert_eq!((slip.status, slip.out.as_str()), (3, "refused 7 Formula\nrefused 7 Formula\n"));
-    let none = run_with(&on_sample("816 float -"), b"");
-    assert_eq!((none.status, none.out.as_str(), none.error.as_str()), (0, "", ""));
-}
-
-#[test]
-fn a_line_that_is_no_value_ends_the_input() {
-    let ended = run_with(&on_sample("528 unsigned -"), b"8\nx\n16\n");
-    let error = "mdf-convert: line 2 of standard input: \"x\" is no unsigned whole number\n";
-    assert_eq!((ended.status, ended.out.as_str(), ended.error.as_str()), (2, "number 1\n", error));
-}
-
-/// The lines of the command's output, as they come.
-fn lines_of(child: &mut Child) -> Receiver<String> {
-    let (sender, lines) = channel();
-    let out = BufReader::new(child.stdout.take().unwrap());
-    thread::spawn(move || out.lines().for_each(|line| sender.send(line.unwrap()).unwrap_or_default()));
-    lines
-}
-
-#[test]
-fn an_answer_does_not_wait_for_the_next_value() {
-    let mut child = start(&on_sample("528 unsigned -"), Stdio::piped());
-    let mut input = child.stdin.take().unwrap();
-    let lines = lines_of(&mut child);
-    for (value, answer) in [("8\n1", "number 1"), ("6\n", "number 2")] {
-        input.write_all(value.as_bytes()).unwrap();
-        assert_eq!(lines.recv_timeout(Duration::from_secs(20)).as_deref(), Ok(answer));
-    }
-    drop(input);
-    assert_eq!(child.wait().unwrap().code(), Some(0));
-}
-
-#[test]
 fn fields_in_words() {
     let torque = "accepted, visits 1\ntype: 1 linear\nname: \"Torque\" at 136\nunit: \"Nm\" at 168\ncomment: \"at the rear shaft\" at 200\n\
         inverse: conversion at 608\nprecision: 3\nflags: 1\nrange: none\nblock length: 80\nlink count: 4\nreference count field: 0\nreferences: 0\n\
@@ -196,29 +123,42 @@ fn fields_of_a_refused_conversion() {
 }
 
 #[test]
-fn links_that_lead_to_no_text() {
-    let mut image = Image::new();
-    let (short, other) = (image.text(b"short"), image.text(b"other"));
-    image.bytes[short as usize + 8] = 23; // a block length below 24
-    image.bytes[other as usize..][..4].copy_from_slice(b"##MD");
-    let root = image.block(7, &[0, short, u64::MAX, other], &[]);
-    let file = Temporary::new("links", &image);
-    let ended = run(&[file.path(), &root.to_string()]);
-    let shown = format!(
-        "references: 4\n  0: none\n  1: no text or conversion at {short}\n  2: {}, outside the image\n  3: no text or conversion at {other}\n",
-        u64::MAX
-    );
-    assert!(ended.out.contains(&shown), "{}", ended.out);
-}
-
-#[test]
 fn help() {
     let ended = run(&["--help"]);
     assert_eq!((ended.status, ended.error.as_str()), (0, ""));
-    for word in ["IMAGE-FILE ADDRESS KIND VALUE [--limit N]", "KIND -", "unsigned, signed, float or text", "refused 5 Deep at 1234", "Exit status"] {
+    for word in [
+        "IMAGE-FILE ADDRESS KIND VALUE [--limit N]",
+        "KIND -",
+        "unsigned, signed, float or text",
+        "refused 5 Deep at 1234",
+        "Exit status",
+        "from 1e16 on and below 1e-5",
+        "types 7 and 8",
+    ] {
         assert!(ended.out.contains(word), "{word}");
     }
-    assert!(run(&on_sample("528 --help")).out == ended.out);
+    for line in ["528 --help", "528 -h", "-h", "528 unsigned -h"] {
+        assert_eq!(run(&on_sample(line)).out, ended.out, "{line}");
+    }
+}
+
+#[test]
+fn version() {
+    let ended = run(&["--version"]);
+    assert_eq!((ended.status, ended.out.as_str(), ended.error.as_str()), (0, concat!("mdf-convert ", env!("CARGO_PKG_VERSION"), "\n"), ""));
+}
+
+#[test]
+fn a_limit_behind_a_blank_or_an_equals_sign() {
+    for limit in ["--limit 1", "--limit=1"] {
+        prints(&format!("2488 unsigned 6 {limit}"), 3, "refused 3 Limit at 1664\nchecked 0 applied 0\n");
+        prints(&format!("{limit} 2488"), 3, &run(&on_sample(&format!("2488 {limit}"))).out);
+    }
+    prints("2488 unsigned 6 --limit=2", 0, "text Gear = Low|PTO\nchecked 2 applied 2\n");
+    complains(&on_sample("528 --limit="), "--limit \"\" is no whole number from 0 to 4294967295");
+    complains(&on_sample("528 --limit=-1"), "--limit \"-1\" is no whole number from 0 to 4294967295");
+    complains(&on_sample("528 --limits=1"), "\"--limits=1\" is no option");
+    complains(&on_sample("528 --help=1"), "\"--help=1\" is no option");
 }
 
 #[test]
@@ -255,29 +195,100 @@ fn values_that_do_not_parse_or_fit() {
     let bounds = "does not fit: signed numbers go from -9223372036854775808 to 9223372036854775807";
     complains(&on_sample("528 signed 9223372036854775808"), &format!("VALUE \"9223372036854775808\" {bounds}"));
     complains(&on_sample("528 signed -9223372036854775809"), &format!("VALUE \"-9223372036854775809\" {bounds}"));
+    complains(&on_sample("528 unsigned 0x"), "VALUE \"0x\" is no unsigned whole number");
+    complains(&on_sample("528 unsigned +1"), "VALUE \"+1\" is no unsigned whole number");
+    complains(&on_sample("528 unsigned 0x10000000000000000"), &largest.replace("18446744073709551616", "0x10000000000000000"));
+    complains(&on_sample("528 signed +-1"), "VALUE \"+-1\" is no signed whole number");
+    complains(&on_sample("528 signed 0x-1"), "VALUE \"0x-1\" is no signed whole number");
+    complains(&on_sample("528 signed 0x8000000000000000"), &format!("VALUE \"0x8000000000000000\" {bounds}"));
+    complains(&on_sample("528 signed -0x8000000000000001"), &format!("VALUE \"-0x8000000000000001\" {bounds}"));
     complains(&on_sample("528 float one"), "VALUE \"one\" is no number");
     complains(&on_sample("528 float -1e999"), "VALUE \"-1e999\" does not fit: floats end at 1.7976931348623157e308");
 }
 
 #[test]
-fn a_file_that_cannot_be_read() {
-    complains(&["no such file", "528", "unsigned", "1"], "IMAGE-FILE \"no such file\": No such file or directory (os error 2)");
-    complains(&["src", "528"], "IMAGE-FILE \"src\": Is a directory (os error 21)");
-}
-
-#[test]
-fn a_text_may_look_like_an_option() {
-    let ended = run(&[SAMPLE, "2384", "text", "--", "--help"]);
-    assert_eq!((ended.status, ended.out.as_str()), (0, "text fault not known\nchecked 1 applied 1\n"));
-}
-
-#[test]
-fn an_answer_that_cannot_be_written() {
-    if !Path::new("/dev/full").exists() {
-        return;
+fn format_characters_are_escaped() {
+    let mut image = Image::new();
+    for (character, bytes) in [
+        ('\u{ad}', "\\xc2\\xad"),
+        ('\u{85}', "\\xc2\\x85"),
+        ('\u{61c}', "\\xd8\\x9c"),
+        ('\u{200b}', "\\xe2\\x80\\x8b"),
+        ('\u{200f}', "\\xe2\\x80\\x8f"),
+        ('\u{2028}', "\\xe2\\x80\\xa8"),
+        ('\u{2029}', "\\xe2\\x80\\xa9"),
+        ('\u{202a}', "\\xe2\\x80\\xaa"),
+        ('\u{202e}', "\\xe2\\x80\\xae"),
+        ('\u{2066}', "\\xe2\\x81\\xa6"),
+        ('\u{2069}', "\\xe2\\x81\\xa9"),
+        ('\u{feff}', "\\xef\\xbb\\xbf"),
+        ('\u{e0041}', "\\xf3\\xa0\\x81\\x81"),
+        ('\u{2010}', "\u{2010}"),
+        ('é', "é"),
+    ] {
+        let text = image.text(format!("a{character}b").as_bytes());
+        let root = image.named(8, text, &[text], &[]);
+        image.set_link(root, 1, text);
+        image.set_link(root, 2, text);
+        let file = Temporary::new("format", &image);
+        let ended = run(&[file.path(), &root.to_string(), "unsigned", "1"]);
+        assert_eq!(ended.out, format!("text a{bytes}b\nchecked 1 applied 1\n"));
+        let shown = format!("\"a{bytes}b\" at {text}\n");
+        let fields = run(&[file.path(), &root.to_string()]).out;
+        for field in ["name: ", "unit: ", "comment: ", "  0: "] {
+            assert!(fields.contains(&format!("\n{field}{shown}")), "{fields}");
+        }
     }
-    let full = File::options().write(true).open("/dev/full").unwrap();
-    let output = start(&on_sample("528 unsigned 8"), full.into()).wait_with_output().unwrap();
-    assert_eq!(output.status.code(), Some(1));
-    assert!(String::from_utf8(output.stderr).unwrap().starts_with("mdf-convert: standard output: "));
+}
+
+#[test]
+fn metadata_is_shown_as_a_unit_and_as_a_comment() {
+    let mut image = Image::new();
+    let unit = image.metadata(b"<CCunit><TX>Nm</TX></CCunit>");
+    let comment = image.metadata(b"<CCcomment>\n<TX>\"rear\" shaft</TX></CCcomment>");
+    let root = image.block(7, &[comment], &[]);
+    for (place, link) in [(0, unit), (1, unit), (2, comment)] {
+        image.set_link(root, place, link);
+    }
+    let file = Temporary::new("metadata", &image);
+    let fields = run(&[file.path(), &root.to_string()]).out;
+    for line in [
+        format!("name: no text or conversion at {unit}"),
+        format!("unit: MD \"<CCunit><TX>Nm</TX></CCunit>\" at {unit}"),
+        format!("comment: MD \"<CCcomment>\\n<TX>\\\"rear\\\" shaft</TX></CCcomment>\" at {comment}"),
+        format!("  0: no text or conversion at {comment}"),
+    ] {
+        assert!(fields.contains(&format!("\n{line}\n")), "{line} in {fields}");
+    }
+}
+
+#[test]
+fn links_that_lead_to_no_text() {
+    let mut image = Image::new();
+    let (short, other) = (image.text(b"short"), image.text(b"other"));
+    image.bytes[short as usize + 8] = 23; // a block length below 24
+    image.bytes[other as usize..][..4].copy_from_slice(b"##SI");
+    let root = image.block(7, &[0, short, u64::MAX, other], &[]);
+    let file = Temporary::new("links", &image);
+    let ended = run(&[file.path(), &root.to_string()]);
+    let shown = format!(
+        "references: 4\n  0: none\n  1: no text or conversion at {short}\n  2: {}, outside the image\n  3: no text or conversion at {other}\n",
+        u64::MAX
+    );
+    assert!(ended.out.contains(&shown), "{}", ended.out);
+}
+
+#[test]
+fn a_value_may_look_like_an_option() {
+    for text in ["--help", "-h", "--limit", "--limit=x", "--version", "--", "-", "-x"] {
+        let ended = run(&[SAMPLE, "2384", "text", "--", text]);
+        assert_eq!((ended.status, ended.out.as_str()), (0, "text fault not known\nchecked 1 applied 1\n"), "{text}");
+    }
+    prints("528 signed -- -3", 0, "number -0.375 Nm\nchecked 1 applied 1\n");
+    prints("--limit=1 528 signed -- -3", 0, "number -0.375 Nm\nchecked 1 applied 1\n");
+    complains(&on_sample("528 signed -- --3"), "VALUE \"--3\" is no signed whole number");
+    complains(&on_sample("528 signed -- -3 --limit"), "\"--limit\" is one argument too many");
+    // Only before VALUE does -- change what - means.
+    let lines = run_with(&["--", SAMPLE, "528", "signed", "-"], b"-3\n");
+    assert_eq!((lines.status, lines.out.as_str()), (0, "number -0.375 Nm\n"));
 }

@@ -24,11 +24,25 @@ impl Image {
 
     /// A ##TX block with zeros up to a multiple of 8.
     pub fn text(&mut self, text: &[u8]) -> u64 {
+        self.text_block(b"##TX", text)
+    }
+
+    /// A ##MD block, likewise.
+    pub fn metadata(&mut self, text: &[u8]) -> u64 {
+        self.text_block(b"##MD", text)
+    }
+
+    fn text_block(&mut self, id: &[u8; 4], text: &[u8]) -> u64 {
         let size = (text.len() + 8) / 8 * 8;
-        let address = self.header(b"##TX", 24 + size, 0);
+        let address = self.header(id, 24 + size, 0);
         self.bytes.extend(text);
         self.bytes.resize(self.bytes.len() + size - text.len(), 0);
         address
+    }
+
+    /// Sets a link of a block: name, unit, comment, inverse, then the references.
+    pub fn set_link(&mut self, block: u64, place: usize, to: u64) {
+        self.bytes[block as usize + 24 + 8 * place..][..8].copy_from_slice(&to.to_le_bytes());
     }
 
     /// A ##CC block with a name, references and the 64 bits of its values.

@@ -1,5 +1,5 @@
 //! What the command is asked for.
-use crate::printing::quoted;
+use crate::printing::brief;
 use mdf_conversion::Value;
 use std::ffi::{OsStr, OsString};
 
@@ -31,54 +31,83 @@ pub struct Request<'a> {
 
 pub enum Arguments<'a> {
     Help,
+    Version,
     Request(Request<'a>),
 }
 
 /// Reads the arguments, or says in one line which one is wrong.
 pub fn read(words: &[OsString]) -> Result<Arguments<'_>, String> {
-    let Some((places, limit)) = sorted(words)? else {
-        return Ok(Arguments::Help);
+    let (places, limit, as_they_stand) = match sorted(words)? {
+        Sorted::Help => return Ok(Arguments::Help),
+        Sorted::Version => return Ok(Arguments::Version),
+        Sorted::Places { places, limit, as_they_stand } => (places, limit, as_they_stand),
     };
     let mut places = places.into_iter();
     let image_file = places.next().ok_or("IMAGE-FILE is missing; mdf-convert --help shows the arguments")?;
     let address = address_of(places.next().ok_or("ADDRESS is missing")?)?;
-    let task = task_of(&mut places)?;
+    let task = task_of(&mut places, as_they_stand == Some(VALUE))?;
     match places.next() {
         Some(word) => Err(format!("{} is one argument too many", shown(word))),
         None => Ok(Arguments::Request(Request { image_file, address, limit, task })),
     }
 }
 
-// The arguments that are no options, and the limit; none where help is asked for.
-fn sorted(words: &[OsString]) -> Result<Option<(Vec<&OsStr>, u32)>, String> {
-    let (mut places, mut limit) = (Vec::new(), USUAL_LIMIT);
+// VALUE among the places.
+const VALUE: usize = 3;
+
+enum Sorted<'a> {
+    Help,
+    Version,
+    /// The arguments that are no options, the limit, and how many of the former stand before `--`.
+    Places {
+        places: Vec<&'a OsStr>,
+        limit: u32,
+        as_they_stand: Option<usize>,
+    },
+}
+
+fn sorted(words: &[OsString]) -> Result<Sorted<'_>, String> {
+    let (mut places, mut limit, mut as_they_stand) = (Vec::new(), USUAL_LIMIT, None);
     let mut words = words.iter().map(OsString::as_os_str);
     while let Some(word) = words.next() {
-        match word.as_encoded_bytes() {
-            b"--help" => return Ok(None),
-            b"--limit" => limit = limit_of(words.next().ok_or("--limit needs a number")?)?,
-            b"--" => places.extend(words.by_ref()),
-            other if other.starts_with(b"--") => return Err(format!("{} is no option", shown(word))),
+        match option_of(word.as_encoded_bytes()) {
+            (b"--help" | b"-h", None) => return Ok(Sorted::Help),
+            (b"--version", None) => return Ok(Sorted::Version),
+            (b"--limit", Some(given)) => limit = limit_of(given)?,
+            (b"--limit", None) => limit = limit_of(words.next().ok_or("--limit needs a number")?.as_encoded_bytes())?,
+            (b"--", None) => {
+                as_they_stand = Some(places.len());
+                places.extend(words.by_ref());
+            }
+            (name, _) if name.starts_with(b"--") => return Err(format!("{} is no option", shown(word))),
             _ => places.push(word),
         }
     }
-    Ok(Some((places, limit)))
+    Ok(Sorted::Places { places, limit, as_they_stand })
 }
 
-fn task_of<'a>(places: &mut impl Iterator<Item = &'a OsStr>) -> Result<Task<'a>, String> {
+// The name of an option, and what is given with it behind an equals sign.
+fn option_of(word: &[u8]) -> (&[u8], Option<&[u8]>) {
+    match word.iter().position(|byte| *byte == b'=') {
+        Some(equals) if word.starts_with(b"--") => (&word[..equals], Some(&word[equals + 1..])),
+        _ => (word, None),
+    }
+}
+
+fn task_of<'a>(places: &mut impl Iterator<Item = &'a OsStr>, as_it_stands: bool) -> Result<Task<'a>, String> {
     let Some(kind) = places.next() else {
         return Ok(Task::Describe);
     };
     let kind = kind_of(kind)?;
     match places.next().map(OsStr::as_encoded_bytes) {
         None => Err("VALUE is missing: a value, or - for standard input".into()),
-        Some(b"-") => Ok(Task::ConvertLines(kind)),
+        Some(b"-") if !as_it_stands => Ok(Task::ConvertLines(kind)),
         Some(value) => value_of(kind, value).map(Task::ConvertOne).map_err(|why| format!("VALUE {why}")),
     }
 }
 
 fn shown(word: &OsStr) -> String {
-    quoted(word.as_encoded_bytes())
+    brief(word.as_encoded_bytes())
 }
 
 fn kind_of(word: &OsStr) -> Result<Kind, String> {
@@ -92,20 +121,15 @@ fn kind_of(word: &OsStr) -> Result<Kind, String> {
 }
 
 fn address_of(word: &OsStr) -> Result<u64, String> {
-    let bytes = word.as_encoded_bytes();
-    let number = match bytes.strip_prefix(b"0x") {
-        Some(digits) => whole(digits, 16),
-        None => whole(bytes, 10),
-    };
-    number.map_err(|why| match why {
+    whole(word.as_encoded_bytes()).map_err(|why| match why {
         NoNumber::Unread => format!("ADDRESS {} is no number, decimal or hexadecimal after 0x", shown(word)),
         NoNumber::TooLarge => format!("ADDRESS {} does not fit 64 bits", shown(word)),
     })
 }
 
-fn limit_of(word: &OsStr) -> Result<u32, String> {
-    let number = whole(word.as_encoded_bytes(), 10).ok().and_then(|number| u32::try_from(number).ok());
-    number.ok_or(format!("--limit {} is no whole number from 0 to {}", shown(word), u32::MAX))
+fn limit_of(bytes: &[u8]) -> Result<u32, String> {
+    let number = digits(bytes, 10).ok().and_then(|number| u32::try_from(number).ok());
+    number.ok_or(format!("--limit {} is no whole number from 0 to {}", brief(bytes), u32::MAX))
 }
 
 enum NoNumber {
@@ -113,8 +137,16 @@ enum NoNumber {
     TooLarge,
 }
 
-// A whole number of digits and nothing else.
-fn whole(bytes: &[u8], radix: u32) -> Result<u64, NoNumber> {
+// A whole number without a sign, decimal or hexadecimal after 0x.
+fn whole(bytes: &[u8]) -> Result<u64, NoNumber> {
+    match bytes.strip_prefix(b"0x") {
+        Some(bytes) => digits(bytes, 16),
+        None => digits(bytes, 10),
+    }
+}
+
+// A number of digits and nothing else.
+fn digits(bytes: &[u8], radix: u32) -> Result<u64, NoNumber> {
     let digits = std::str::from_utf8(bytes).map_err(|_| NoNumber::Unread)?;
     if digits.is_empty() || !digits.chars().all(|digit| digit.is_digit(radix)) {
         return Err(NoNumber::Unread);
@@ -133,33 +165,33 @@ pub fn value_of(kind: Kind, bytes: &[u8]) -> Result<Value<'_>, String> {
 }
 
 fn unsigned_of(bytes: &[u8]) -> Result<u64, String> {
-    whole(bytes, 10).map_err(|why| match why {
-        NoNumber::Unread => format!("{} is no unsigned whole number", quoted(bytes)),
-        NoNumber::TooLarge => format!("{} does not fit: unsigned numbers end at {}", quoted(bytes), u64::MAX),
+    whole(bytes).map_err(|why| match why {
+        NoNumber::Unread => format!("{} is no unsigned whole number", brief(bytes)),
+        NoNumber::TooLarge => format!("{} does not fit: unsigned numbers end at {}", brief(bytes), u64::MAX),
     })
 }
 
 fn signed_of(bytes: &[u8]) -> Result<i64, String> {
-    let (is_negative, digits) = match bytes.strip_prefix(b"-") {
-        Some(digits) => (true, digits),
-        None => (false, bytes),
+    let (sign, size) = match bytes {
+        [b'-', size @ ..] => (-1, size),
+        [b'+', size @ ..] => (1, size),
+        size => (1, size),
     };
-    let size = match whole(digits, 10) {
+    let size = match whole(size) {
         Ok(size) => i128::from(size),
-        Err(NoNumber::Unread) => return Err(format!("{} is no signed whole number", quoted(bytes))),
+        Err(NoNumber::Unread) => return Err(format!("{} is no signed whole number", brief(bytes))),
         Err(NoNumber::TooLarge) => i128::MAX,
     };
-    let number = if is_negative { -size } else { size };
-    i64::try_from(number).map_err(|_| format!("{} does not fit: signed numbers go from {} to {}", quoted(bytes), i64::MIN, i64::MAX))
+    i64::try_from(sign * size).map_err(|_| format!("{} does not fit: signed numbers go from {} to {}", brief(bytes), i64::MIN, i64::MAX))
 }
 
 fn float_of(bytes: &[u8]) -> Result<f64, String> {
     let number = std::str::from_utf8(bytes).ok().and_then(|digits| digits.parse::<f64>().ok());
     match number {
-        None => Err(format!("{} is no number", quoted(bytes))),
+        None => Err(format!("{} is no number", brief(bytes))),
         // Only digits can be too large: a value that is meant as infinite has none.
         Some(number) if number.is_infinite() && bytes.iter().any(u8::is_ascii_digit) => {
-            Err(format!("{} does not fit: floats end at {:e}", quoted(bytes), f64::MAX))
+            Err(format!("{} does not fit: floats end at {:e}", brief(bytes), f64::MAX))
         }
         Some(number) => Ok(number),
     }

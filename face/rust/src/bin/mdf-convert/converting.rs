@@ -1,6 +1,7 @@
 //! Values converted, and their answers printed.
 use crate::arguments::{value_of, Kind};
 use crate::printing::{line, number};
+use crate::units::Units;
 use crate::Stop;
 use mdf_conversion::{apply, Answer, Applied, Refusal, Value};
 use std::io::{BufRead, BufReader, Read, Write};
@@ -16,11 +17,12 @@ pub struct Converter<'a> {
     address: u64,
     limit: u32,
     out: Vec<u8>,
+    units: Units<'a>,
 }
 
 impl<'a> Converter<'a> {
     pub fn new(image: &'a [u8], address: u64, limit: u32) -> Converter<'a> {
-        Converter { image, address, limit, out: vec![0; FIRST_ROOM] }
+        Converter { image, address, limit, out: vec![0; FIRST_ROOM], units: Units::new(image) }
     }
 
     fn convert(&mut self, value: Value<'_>) -> Outcome {
@@ -32,13 +34,13 @@ impl<'a> Converter<'a> {
         }
     }
 
-    // The line of the outcome of the last call.
-    fn shown(&self, outcome: &Outcome) -> String {
+    // The line of the outcome of the last call, which was for this value.
+    fn shown(&mut self, value: Value<'_>, outcome: &Outcome) -> String {
         match outcome {
             Err(refusal) => refusal.to_string(),
             Ok(applied) => match applied.answer {
-                Answer::Number(x) => format!("number {}", number(x)),
-                Answer::Text(length) => format!("text {}", line(&self.out[..length])),
+                Answer::Number(x) => format!("number {}{}", number(x), self.units.behind(self.address, value, applied.visits.applied)),
+                Answer::Text(_) => format!("text {}", line(applied.text(&self.out).unwrap_or_default())),
                 Answer::Unchanged => "unchanged".into(),
                 Answer::Unknown => "unknown".into(),
             },
@@ -48,7 +50,7 @@ impl<'a> Converter<'a> {
     /// Prints the answer for one value, and on a second line the visits. Answers whether nothing was refused.
     pub fn convert_one(mut self, value: Value<'_>, out: &mut impl Write) -> Result<bool, Stop> {
         let outcome = self.convert(value);
-        writeln!(out, "{}\n{}", self.shown(&outcome), visits(&outcome))?;
+        writeln!(out, "{}\n{}", self.shown(value, &outcome), visits(&outcome))?;
         Ok(outcome.is_ok())
     }
 
@@ -59,7 +61,7 @@ impl<'a> Converter<'a> {
             count += 1;
             let value = value_of(kind, &bytes).map_err(|why| Stop::Bad(format!("line {count} of standard input: {why}")))?;
             let outcome = self.convert(value);
-            writeln!(out, "{}", self.shown(&outcome))?;
+            writeln!(out, "{}", self.shown(value, &outcome))?;
             all_answered &= outcome.is_ok();
         }
         Ok(all_answered)
@@ -75,15 +77,18 @@ fn visits(outcome: &Outcome) -> String {
     format!("checked {} applied {}", visits.checked, visits.applied)
 }
 
-// The next line without its end. Before the input is waited for, the answers so far are handed on.
+// The next line without its end, which is a newline, or a carriage return and a newline. Before the input is waited for, the answers so far are
+// handed on.
 fn next_line(input: &mut BufReader<impl Read>, out: &mut impl Write) -> Result<Option<Vec<u8>>, Stop> {
     if !input.buffer().contains(&b'\n') {
         out.flush()?;
     }
     let mut bytes = Vec::new();
     let length = input.read_until(b'\n', &mut bytes).map_err(|error| Stop::Bad(format!("standard input: {error}")))?;
-    if bytes.last() == Some(&b'\n') {
-        bytes.pop();
+    for end in [b'\n', b'\r'] {
+        if bytes.last() == Some(&end) {
+            bytes.pop();
+        }
     }
     Ok((length > 0).then_some(bytes))
 }

@@ -1,5 +1,6 @@
 //! A conversion checked, and its fields in words.
 use crate::printing::{number, quoted};
+use crate::texts::{lead, Lead};
 use crate::Stop;
 use mdf_conversion::{check, ConversionBlock, ConversionType, PhysicalRange};
 use std::io::Write;
@@ -21,10 +22,10 @@ pub fn describe(image: &[u8], address: u64, limit: u32, out: &mut impl Write) ->
 
 fn print_fields(image: &[u8], block: &ConversionBlock, out: &mut impl Write) -> Result<(), Stop> {
     writeln!(out, "type: {} {}", block.cc_type.to_u8(), block.cc_type)?;
-    writeln!(out, "name: {}", lead(image, block.cc_tx_name))?;
-    writeln!(out, "unit: {}", lead(image, block.cc_md_unit))?;
-    writeln!(out, "comment: {}", lead(image, block.cc_md_comment))?;
-    writeln!(out, "inverse: {}", lead(image, block.cc_cc_inverse))?;
+    writeln!(out, "name: {}", text_or_block(image, block.cc_tx_name))?;
+    writeln!(out, "unit: {}", text_or_metadata(image, block.cc_md_unit))?;
+    writeln!(out, "comment: {}", text_or_metadata(image, block.cc_md_comment))?;
+    writeln!(out, "inverse: {}", text_or_block(image, block.cc_cc_inverse))?;
     writeln!(out, "precision: {}", block.cc_precision)?;
     writeln!(out, "flags: {}", block.cc_flags)?;
     writeln!(out, "range: {}", range(block.cc_phy_range))?;
@@ -40,7 +41,7 @@ fn print_references(image: &[u8], address: u64, out: &mut impl Write) -> Result<
     };
     writeln!(out, "references: {}", references.len())?;
     for (place, link) in references.enumerate() {
-        writeln!(out, "  {place}: {}", lead(image, Some(link)))?;
+        writeln!(out, "  {place}: {}", text_or_block(image, Some(link)))?;
     }
     Ok(())
 }
@@ -66,24 +67,21 @@ fn range(range: Option<PhysicalRange>) -> String {
     }
 }
 
-// What a link leads to.
-fn lead(image: &[u8], link: Option<u64>) -> String {
-    let Some(address) = link.filter(|address| *address != 0) else {
-        return "none".into();
-    };
-    let block = usize::try_from(address).ok().and_then(|start| image.get(start..)).unwrap_or_default();
-    match (text(block), block.get(..24)) {
-        (Some(text), _) => format!("{} at {address}", quoted(text)),
-        (None, Some(header)) if header.starts_with(b"##CC") => format!("conversion at {address}"),
-        (None, Some(_)) => format!("no text or conversion at {address}"),
-        (None, None) => format!("{address}, outside the image"),
+// A link that may lead to a ##MD block.
+fn text_or_metadata(image: &[u8], link: Option<u64>) -> String {
+    match (lead(image, link), link) {
+        (Lead::Metadata(text), Some(address)) => format!("MD {} at {address}", quoted(text)),
+        _ => text_or_block(image, link),
     }
 }
 
-// The text of a ##TX block at the front of these bytes: from byte 24 to the first zero, or to its block length.
-fn text(block: &[u8]) -> Option<&[u8]> {
-    let header = block.get(..24).filter(|header| header.starts_with(b"##TX"))?;
-    let length = u64::from_le_bytes(header[8..16].try_into().ok()?);
-    let bytes = block.get(24..usize::try_from(length).ok()?)?;
-    bytes.split(|byte| *byte == 0).next()
+fn text_or_block(image: &[u8], link: Option<u64>) -> String {
+    let address = link.unwrap_or(0);
+    match lead(image, link) {
+        Lead::Nowhere => "none".into(),
+        Lead::Text(text) => format!("{} at {address}", quoted(text)),
+        Lead::Conversion => format!("conversion at {address}"),
+        Lead::Metadata(_) | Lead::Other => format!("no text or conversion at {address}"),
+        Lead::Outside => format!("{address}, outside the image"),
+    }
 }

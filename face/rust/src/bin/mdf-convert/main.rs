@@ -2,12 +2,17 @@
 mod arguments;
 mod converting;
 mod describing;
+mod output;
 mod printing;
+mod texts;
+mod units;
 
 use arguments::{Arguments, Request, Task};
 use converting::Converter;
 use std::ffi::{OsStr, OsString};
-use std::io::{self, BufWriter, ErrorKind, Write};
+use std::fs::{self, FileType};
+use std::io::{self, BufWriter, Write};
+use std::os::unix::fs::FileTypeExt;
 use std::process::ExitCode;
 
 const HELP: &str = "\
@@ -16,24 +21,36 @@ mdf-convert: converts values by a conversion (##CC block) of an MDF 4 file
   mdf-convert IMAGE-FILE ADDRESS KIND VALUE [--limit N]   converts one value
   mdf-convert IMAGE-FILE ADDRESS KIND - [--limit N]       converts each line of standard input
   mdf-convert IMAGE-FILE ADDRESS [--limit N]              checks the conversion and shows its fields
-  mdf-convert --help                                      shows this text
+  mdf-convert --help                                      shows this text; so does -h
+  mdf-convert --version                                   shows the version
 
-  ADDRESS    where the conversion stands in the file: decimal, or hexadecimal after 0x
-  KIND       unsigned, signed, float or text
-  VALUE      a value of that kind: a whole number in decimal, a float such as 2.5, -1e3, inf or nan, or a text
-  --limit N  the most conversions that the check may visit, 4096 if not given
-  --         what follows is no option, so that a text may begin with --
+  IMAGE-FILE  the file, a regular one: it is read once, as a whole
+  ADDRESS     where the conversion stands in the file: decimal, or hexadecimal after 0x
+  KIND        unsigned, signed, float or text
+  VALUE       a value of that kind: a whole number, decimal or hexadecimal after 0x, a signed one with - or + before it or no sign;
+              a float such as 2.5, -1e3, inf or nan; or a text
+  --limit N   the most conversions that the check may visit, 4096 if not given; also --limit=N
+  --          no option follows; a VALUE right behind it is taken as it stands, be it -h, --limit or -
+
+A line of standard input ends with a newline, or with a carriage return and a newline: neither is part of the value.
 
 One value gives two lines: the answer, then N and M, how many blocks were checked and applied. Standard input gives one answer a line.
 
-  number 42.5               a number, in the shortest form that reads back the same
+  number -0.375 Nm          a number, and the unit of the block that gave it, if that has one
   text Gear = Low|PTO       a text
   unchanged                 the value stays as it is
   unknown                   the value has no counterpart
   refused 5 Deep at 1234    the number and name of a refusal, with the address that 1 to 6 have
   checked 2 applied 2       the second line: N and M
 
-In a text a backslash is written \\\\, a newline \\n, a tab \\t, and any other control character or byte that is not UTF-8 \\xNN.
+A number has the fewest digits that read back the same float, and from 1e16 on and below 1e-5 an exponent: 2.305843009213694e18.
+
+The unit is that of the conversion at ADDRESS, except where a value to text or a range to text (types 7 and 8) passes the value on to a nested
+conversion: then it is that of the nested one, the last that the value was passed on to, and none if that has none. A unit or comment in a ##MD
+block is XML; it is shown as it is, in quotation marks behind the letters MD.
+
+In a text a backslash is written \\\\, a newline \\n and a tab \\t. Of any other control character, of a format character such as those that turn
+the direction of writing, and of what is not UTF-8, each byte is written \\xNN.
 
   1 Outside         the address + 24 is beyond the file
   2 NotConversion   no ##CC block stands there
@@ -46,32 +63,58 @@ In a text a backslash is written \\\\, a newline \\n, a tab \\t, and any other c
 
 Exit status
   0  answered
-  1  the answer cannot be written to standard output
-  2  a bad argument, a file that cannot be read, or a line of standard input that is no value; it says so in one line on standard error
+  1  the answer cannot be written: standard output is closed, full or no longer read
+  2  a bad argument, a file that cannot be read or is no regular file, or a line of standard input that is no value
   3  refused; of many values, at least one
+
+With 1 and 2 one line on standard error says why.
 ";
+
+const VERSION: &str = concat!("mdf-convert ", env!("CARGO_PKG_VERSION"), "\n");
 
 const ANSWERED: u8 = 0;
 const UNWRITTEN: u8 = 1;
 const BAD: u8 = 2;
 const REFUSED: u8 = 3;
 
-/// Why the command stops before its answer is whole.
+/// Why the command stops before its answer is whole, in one line.
 enum Stop {
-    /// One line that names the argument, the file or the line of input.
+    /// An argument, the file or a line of input is bad.
     Bad(String),
     /// Standard output cannot be written.
-    Unwritten(io::Error),
+    Unwritten(String),
 }
 
 impl From<io::Error> for Stop {
     fn from(error: io::Error) -> Stop {
-        Stop::Unwritten(error)
+        unwritten(&error)
     }
 }
 
+fn unwritten(error: &io::Error) -> Stop {
+    Stop::Unwritten(format!("standard output: {error}"))
+}
+
+// Looked at before it is opened: to open a fifo is to wait for its writer.
 fn image_of(file: &OsStr) -> Result<Vec<u8>, Stop> {
-    std::fs::read(file).map_err(|error| Stop::Bad(format!("IMAGE-FILE {}: {error}", printing::quoted(file.as_encoded_bytes()))))
+    let bad = |why: String| Stop::Bad(format!("IMAGE-FILE {}{why}", printing::quoted(file.as_encoded_bytes())));
+    let kind = fs::metadata(file).map_err(|error| bad(format!(": {error}")))?.file_type();
+    if !kind.is_file() {
+        return Err(bad(format!(" is {}, no regular file", in_words(kind))));
+    }
+    fs::read(file).map_err(|error| bad(format!(": {error}")))
+}
+
+fn in_words(kind: FileType) -> &'static str {
+    if kind.is_dir() {
+        "a directory"
+    } else if kind.is_fifo() {
+        "a fifo"
+    } else if kind.is_socket() {
+        "a socket"
+    } else {
+        "a device"
+    }
 }
 
 // Answers whether nothing was refused.
@@ -85,35 +128,31 @@ fn carry_out(request: Request<'_>, out: &mut impl Write) -> Result<bool, Stop> {
     }
 }
 
-fn run(words: &[OsString], out: &mut impl Write) -> Result<bool, Stop> {
-    match arguments::read(words).map_err(Stop::Bad)? {
+fn run(words: &[OsString]) -> Result<bool, Stop> {
+    let arguments = arguments::read(words).map_err(Stop::Bad)?;
+    let mut out = BufWriter::new(output::given().as_ref().map_err(unwritten)?);
+    let ended = match arguments {
         Arguments::Help => out.write_all(HELP.as_bytes()).map(|()| true).map_err(Stop::from),
-        Arguments::Request(request) => carry_out(request, out),
-    }
+        Arguments::Version => out.write_all(VERSION.as_bytes()).map(|()| true).map_err(Stop::from),
+        Arguments::Request(request) => carry_out(request, &mut out),
+    };
+    out.flush().map_err(Stop::from).and(ended)
 }
 
 // The exit status, and on standard error the one line that says why there is no whole answer.
 fn status_of(ended: Result<bool, Stop>) -> u8 {
-    match ended {
-        Ok(true) => ANSWERED,
-        Ok(false) => REFUSED,
-        Err(Stop::Bad(line)) => {
-            eprintln!("mdf-convert: {line}");
-            BAD
-        }
-        Err(Stop::Unwritten(error)) => {
-            if error.kind() != ErrorKind::BrokenPipe {
-                eprintln!("mdf-convert: standard output: {error}");
-            }
-            UNWRITTEN
-        }
-    }
+    let (status, line) = match ended {
+        Ok(true) => return ANSWERED,
+        Ok(false) => return REFUSED,
+        Err(Stop::Unwritten(line)) => (UNWRITTEN, line),
+        Err(Stop::Bad(line)) => (BAD, line),
+    };
+    // If that cannot be written either, the status still says it.
+    let _ = writeln!(io::stderr(), "mdf-convert: {line}");
+    status
 }
 
 fn main() -> ExitCode {
     let words: Vec<OsString> = std::env::args_os().skip(1).collect();
-    let mut out = BufWriter::new(io::stdout());
-    let ended = run(&words, &mut out);
-    let ended = out.flush().map_err(Stop::from).and(ended);
-    ExitCode::from(status_of(ended))
+    ExitCode::from(status_of(run(&words)))
 }
