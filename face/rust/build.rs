@@ -24,10 +24,10 @@ fn is_for_the_target() -> bool {
 // such answer, the variable that a shell keeps.
 fn caller_folder() -> Option<PathBuf> {
     #[cfg(unix)]
-    let of_cargo = std::fs::read_link(format!("/proc/{}/cwd", std::os::unix::process::parent_id())).ok();
+    let of_process = std::fs::read_link(format!("/proc/{}/cwd", std::os::unix::process::parent_id())).ok();
     #[cfg(not(unix))]
-    let of_cargo = None;
-    of_cargo.or_else(|| env::var_os("PWD").map(PathBuf::from)).filter(|folder| folder.is_absolute())
+    let of_process = None;
+    of_process.or_else(|| env::var_os("PWD").map(PathBuf::from)).filter(|folder| folder.is_absolute())
 }
 
 // The archive's folder, and why it is that one.

@@ -3,10 +3,6 @@ use crate::raw;
 use crate::refusal::Refusal;
 use crate::types::ConversionType;
 
-const HEADER_AND_FIXED_LINKS: usize = 24 + 8 * 4;
-const FIELDS: usize = 8;
-const RANGE: usize = 16;
-
 /// The physical range of a conversion.
 #[derive(Clone, Copy, Debug, PartialEq)]
 pub struct PhysicalRange {
@@ -18,7 +14,8 @@ pub struct PhysicalRange {
 
 /// The fields of a ##CC block. A link is an address, and `None` where it is 0, which leads nowhere.
 ///
-/// References and values are read from the image by [`cc_ref`](Self::cc_ref) and [`cc_val`](Self::cc_val).
+/// References and values are read from the image: all by [`cc_ref`](Self::cc_ref) and [`cc_val`](Self::cc_val), one by
+/// [`reference`](Self::reference) and [`value_word`](Self::value_word).
 #[must_use]
 #[derive(Clone, Copy, Debug, PartialEq)]
 pub struct ConversionBlock {
@@ -114,8 +111,8 @@ impl ConversionBlock {
     /// # Ok::<(), Refusal>(())
     /// ```
     pub fn cc_ref(image: &[u8], address: u64) -> Result<impl ExactSizeIterator<Item = u64> + Clone + '_, Refusal> {
-        let block = ConversionBlock::parse(image, address)?;
-        Ok(words(image, address as usize + HEADER_AND_FIXED_LINKS, block.references()))
+        let references = ConversionBlock::parse(image, address)?.references();
+        Ok((0..references).map(move |place| standing(ConversionBlock::reference(image, address, place as u64))))
     }
 
     /// The values of the block at `address`, in order. Each keeps its 64 bits: the masks of bit groups are those of [`f64::to_bits`].
@@ -135,10 +132,50 @@ impl ConversionBlock {
     /// # Ok::<(), Refusal>(())
     /// ```
     pub fn cc_val(image: &[u8], address: u64) -> Result<impl ExactSizeIterator<Item = f64> + Clone + '_, Refusal> {
-        let block = ConversionBlock::parse(image, address)?;
-        let range = if block.cc_phy_range.is_some() { RANGE } else { 0 };
-        let first = address as usize + HEADER_AND_FIXED_LINKS + 8 * block.references() + FIELDS + range;
-        Ok(words(image, first, usize::from(block.cc_val_count)).map(f64::from_bits))
+        let values = usize::from(ConversionBlock::parse(image, address)?.cc_val_count);
+        Ok((0..values).map(move |place| f64::from_bits(standing(ConversionBlock::value_word(image, address, place as u64)))))
+    }
+
+    /// One reference of the block at `address`; the first has the place 0. `None` where the block has no such place.
+    ///
+    /// # Errors
+    ///
+    /// Those of [`parse`](Self::parse).
+    ///
+    /// ```
+    /// use mdf_conversion::{ConversionBlock, Refusal};
+    ///
+    /// let image = std::fs::read("../../samples/tractor.mdf").unwrap();
+    ///
+    /// // Transmission, bit groups, stands at 2488. It leads to a conversion and a text.
+    /// assert_eq!(ConversionBlock::reference(&image, 2488, 1)?, Some(1456));
+    /// assert_eq!(ConversionBlock::reference(&image, 2488, 2)?, None);
+    /// # Ok::<(), Refusal>(())
+    /// ```
+    pub fn reference(image: &[u8], address: u64, place: u64) -> Result<Option<u64>, Refusal> {
+        // SAFETY: pointer and length are those of one slice.
+        word_of(unsafe { raw::mdf_reference(image.as_ptr(), image.len(), address, place) })
+    }
+
+    /// The 64 bits of one value of the block at `address`; the first has the place 0. `None` where the block has no such place.
+    ///
+    /// # Errors
+    ///
+    /// Those of [`parse`](Self::parse).
+    ///
+    /// ```
+    /// use mdf_conversion::{ConversionBlock, Refusal};
+    ///
+    /// let image = std::fs::read("../../samples/tractor.mdf").unwrap();
+    ///
+    /// // Transmission, bit groups, stands at 2488.
+    /// assert_eq!(ConversionBlock::value_word(&image, 2488, 1)?, Some(0xc));
+    /// assert_eq!(ConversionBlock::value_word(&image, 2488, 2)?, None);
+    /// # Ok::<(), Refusal>(())
+    /// ```
+    pub fn value_word(image: &[u8], address: u64, place: u64) -> Result<Option<u64>, Refusal> {
+        // SAFETY: pointer and length are those of one slice.
+        word_of(unsafe { raw::mdf_value_word(image.as_ptr(), image.len(), address, place) })
     }
 
     /// Writes the block with these references and values, each value as its 64 bits, and answers how many bytes it wrote.
@@ -222,7 +259,7 @@ impl ConversionBlock {
             cc_flags: block.flags,
             cc_ref_count: block.ref_count,
             cc_val_count: block.val_count,
-            cc_phy_range: block.ranged.then_some(range),
+            cc_phy_range: (block.ranged != 0).then_some(range),
         }
     }
 
@@ -244,7 +281,7 @@ impl ConversionBlock {
             val_count: self.cc_val_count,
             kind: self.cc_type.to_u8(),
             precision: self.cc_precision,
-            ranged: self.cc_phy_range.is_some(),
+            ranged: u8::from(self.cc_phy_range.is_some()),
         }
     }
 }
@@ -253,11 +290,17 @@ fn link(address: u64) -> Option<u64> {
     (address != 0).then_some(address)
 }
 
-// The little-endian words of a part that lies in the image.
-fn words(image: &[u8], start: usize, count: usize) -> impl ExactSizeIterator<Item = u64> + Clone + '_ {
-    image[start..start + 8 * count].chunks_exact(8).map(|bytes| {
-        let mut word = [0; 8];
-        word.copy_from_slice(bytes);
-        u64::from_le_bytes(word)
-    })
+fn word_of(read: raw::Word) -> Result<Option<u64>, Refusal> {
+    match read.refusal {
+        0 => Ok((read.found != 0).then_some(read.word)),
+        number => Err(Refusal::at(number, read.address)),
+    }
+}
+
+// The word at a place that a parsed block has by its own count.
+fn standing(read: Result<Option<u64>, Refusal>) -> u64 {
+    match read {
+        Ok(Some(word)) => word,
+        _ => unreachable!("the archive does not find what it has counted"),
+    }
 }

@@ -3,8 +3,8 @@
 //! Every call works on an image that is lent to it: the bytes of an MDF 4 file, or any bytes at all. An address is a place in the image, counted
 //! from 0. No image, address, value or length makes a call misbehave or run on: a call answers, or it refuses with a number ([`Refusal`]).
 //!
-//! The work is done by an archive of proved code. This crate hands it slices and turns its answers into Rust's types. It has no dependencies, needs
-//! no standard library and no heap, and keeps nothing between calls.
+//! The work is done by an archive of proved code. This crate hands it slices and turns its answers into Rust's types: of the image it reads nothing
+//! by itself. It has no dependencies, needs no standard library and no heap, and keeps nothing between calls.
 //!
 //! ```
 //! use mdf_conversion::{apply, Answer, Refusal, Value};
@@ -22,6 +22,9 @@
 //! # Ok::<(), Refusal>(())
 //! ```
 //!
+//! A call computes in the float environment that a program starts with: results round to nearest, and no subnormal number is flushed to zero. In a
+//! program that has changed it, an answer can be another.
+//!
 //! # What a call can cost
 //!
 //! With S the bytes of the image, N the visits of the check, at most the limit, B the bytes of the largest block visited, and R the length of `out`,
@@ -36,7 +39,8 @@
 #![no_std]
 #![warn(missing_docs)]
 
-// The archive has machine code, and the layouts in `raw` are those of this target alone. The build script says the same, before it looks for the archive.
+// The archive has machine code, and the layouts in `raw` are those of this target alone. The build script says so, too, before it looks for the
+// archive.
 #[cfg(not(all(target_arch = "x86_64", target_os = "linux", target_pointer_width = "64")))]
 compile_error!("the archive of the proved code is for x86-64 Linux");
 

@@ -42,7 +42,7 @@ pub struct Block {
     pub val_count: u16,
     pub kind: u8,
     pub precision: u8,
-    pub ranged: bool,
+    pub ranged: u8,
 }
 
 #[repr(C)]
@@ -50,6 +50,14 @@ pub struct Parsed {
     pub refusal: u32,
     pub address: u64,
     pub block: Block,
+}
+
+#[repr(C)]
+pub struct Word {
+    pub refusal: u32,
+    pub found: u32,
+    pub address: u64,
+    pub word: u64,
 }
 
 #[repr(C)]
@@ -76,6 +84,8 @@ extern "C" {
     pub fn mdf_apply_other(image: *const u8, image_len: usize, address: u64, limit: u32, out: *mut u8, out_len: usize) -> Applied;
     pub fn mdf_translate(image: *const u8, image_len: usize, address: u64, limit: u32, question: *const u8, question_len: usize) -> Shown;
     pub fn mdf_parse(image: *const u8, image_len: usize, address: u64) -> Parsed;
+    pub fn mdf_reference(image: *const u8, image_len: usize, address: u64, index: u64) -> Word;
+    pub fn mdf_value_word(image: *const u8, image_len: usize, address: u64, index: u64) -> Word;
     pub fn mdf_write(block: Block, refs: *const u64, refs_len: usize, words: *const u64, words_len: usize, out: *mut u8, out_len: usize) -> Written;
 }
 

@@ -258,6 +258,53 @@ fn what_was_written_is_parsed() {
 }
 
 #[test]
+fn reading_by_place() {
+    let (refs, words) = ([5, 0], [0x7ff0000000000001, 12, u64::MAX]);
+    // A block length of 16 more makes a range of the first two words, and the values begin behind them.
+    for (length, values) in [(104, words), (120, [u64::MAX, 0, 0])] {
+        let mut image = Image::new();
+        let address = image.named(11, 0, &refs, &words);
+        image.bytes[address as usize + 8] = length;
+        image.bytes.extend([0; 16]);
+        let reference = |place| ConversionBlock::reference(&image.bytes, address, place);
+        let value_word = |place| ConversionBlock::value_word(&image.bytes, address, place);
+        assert_eq!([0, 1, 2, u64::MAX].map(reference), [Ok(Some(5)), Ok(Some(0)), Ok(None), Ok(None)]);
+        assert_eq!([0, 1, 2].map(value_word), values.map(|word| Ok(Some(word))));
+        assert_eq!([3, 1 << 61, u64::MAX].map(value_word), [Ok(None); 3]);
+        // All of them, in order, and as many as they say.
+        let all = ConversionBlock::cc_ref(&image.bytes, address).unwrap();
+        assert_eq!((all.len(), all.clone().nth(2)), (2, None));
+        assert!(all.eq(refs));
+        let all = ConversionBlock::cc_val(&image.bytes, address).unwrap();
+        assert_eq!((all.len(), all.clone().nth(3)), (3, None));
+        assert!(all.map(f64::to_bits).eq(values));
+    }
+}
+
+#[test]
+fn reading_by_place_refuses_as_parsing_does() {
+    let mut image = Image::new();
+    let text = image.text(b"no conversion");
+    let few = image.block(7, &[], &[]);
+    image.bytes[few as usize + 16] = 3; // links, below the four that are read even so
+    let cut = image.block(1, &[], &[0.0, 1.0]);
+    image.bytes.pop();
+    let end = image.bytes.len() as u64;
+    for refusal in [Refusal::Outside(end), Refusal::Outside(u64::MAX), Refusal::NotConversion(text), Refusal::Short(cut)] {
+        let address = refusal.address().unwrap();
+        for place in [0, 1, u64::MAX] {
+            assert_eq!(ConversionBlock::reference(&image.bytes, address, place), Err(refusal));
+            assert_eq!(ConversionBlock::value_word(&image.bytes, address, place), Err(refusal));
+        }
+        assert_eq!(ConversionBlock::parse(&image.bytes, address), Err(refusal));
+        assert_eq!(ConversionBlock::cc_ref(&image.bytes, address).err(), Some(refusal));
+        assert_eq!(ConversionBlock::cc_val(&image.bytes, address).err(), Some(refusal));
+    }
+    assert_eq!(ConversionBlock::reference(&image.bytes, few, 0), Ok(None));
+    assert_eq!(ConversionBlock::cc_ref(&image.bytes, few).unwrap().len(), 0);
+}
+
+#[test]
 fn every_nan_keeps_its_bits() {
     let words = [0x7ff0000000000001, 0xfff8000000000123, 0x7fffffffffffffff, 3];
     let nan = |word| f64::from_bits(word);

@@ -50,6 +50,12 @@ int main(void) {
     FIELD(mdf_parsed, address);
     FIELD(mdf_parsed, block);
     END();
+    BEGIN(mdf_word);
+    FIELD(mdf_word, refusal);
+    FIELD(mdf_word, found);
+    FIELD(mdf_word, address);
+    FIELD(mdf_word, word);
+    END();
     BEGIN(mdf_written);
     FIELD(mdf_written, refusal);
     FIELD(mdf_written, length);

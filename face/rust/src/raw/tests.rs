@@ -1,5 +1,5 @@
 //! The structs have the layout that a C compiler gives those of the header.
-use super::{Applied, Block, Checked, Parsed, Shown, Written};
+use super::{Applied, Block, Checked, Parsed, Shown, Word, Written};
 use core::mem::{align_of, offset_of, size_of};
 use std::format;
 use std::path::PathBuf;
@@ -40,6 +40,7 @@ fn lines_of_rust() -> String {
             ranged
         )
         + &line!("mdf_parsed", Parsed, refusal, address, block)
+        + &line!("mdf_word", Word, refusal, found, address, word)
         + &line!("mdf_written", Written, refusal, length)
 }
 

@@ -37,15 +37,15 @@ pub enum Arguments<'a> {
 
 /// Reads the arguments, or says in one line which one is wrong.
 pub fn read(words: &[OsString]) -> Result<Arguments<'_>, String> {
-    let (places, limit, as_they_stand) = match sorted(words)? {
+    let (places, limit, before_dashes) = match sorted(words)? {
         Sorted::Help => return Ok(Arguments::Help),
         Sorted::Version => return Ok(Arguments::Version),
-        Sorted::Places { places, limit, as_they_stand } => (places, limit, as_they_stand),
+        Sorted::Places { places, limit, before_dashes } => (places, limit, before_dashes),
     };
     let mut places = places.into_iter();
     let image_file = places.next().ok_or("IMAGE-FILE is missing; mdf-convert --help shows the arguments")?;
     let address = address_of(places.next().ok_or("ADDRESS is missing")?)?;
-    let task = task_of(&mut places, as_they_stand == Some(VALUE))?;
+    let task = task_of(&mut places, before_dashes == Some(VALUE))?;
     match places.next() {
         Some(word) => Err(format!("{} is one argument too many", shown(word))),
         None => Ok(Arguments::Request(Request { image_file, address, limit, task })),
@@ -62,12 +62,12 @@ enum Sorted<'a> {
     Places {
         places: Vec<&'a OsStr>,
         limit: u32,
-        as_they_stand: Option<usize>,
+        before_dashes: Option<usize>,
     },
 }
 
 fn sorted(words: &[OsString]) -> Result<Sorted<'_>, String> {
-    let (mut places, mut limit, mut as_they_stand) = (Vec::new(), USUAL_LIMIT, None);
+    let (mut places, mut limit, mut before_dashes) = (Vec::new(), USUAL_LIMIT, None);
     let mut words = words.iter().map(OsString::as_os_str);
     while let Some(word) = words.next() {
         match option_of(word.as_encoded_bytes()) {
@@ -76,14 +76,14 @@ fn sorted(words: &[OsString]) -> Result<Sorted<'_>, String> {
             (b"--limit", Some(given)) => limit = limit_of(given)?,
             (b"--limit", None) => limit = limit_of(words.next().ok_or("--limit needs a number")?.as_encoded_bytes())?,
             (b"--", None) => {
-                as_they_stand = Some(places.len());
+                before_dashes = Some(places.len());
                 places.extend(words.by_ref());
             }
             (name, _) if name.starts_with(b"--") => return Err(format!("{} is no option", shown(word))),
             _ => places.push(word),
         }
     }
-    Ok(Sorted::Places { places, limit, as_they_stand })
+    Ok(Sorted::Places { places, limit, before_dashes })
 }
 
 // The name of an option, and what is given with it behind an equals sign.
