@@ -11,11 +11,11 @@
  *
  *     int main(int count, char **words) {
  *         static uint8_t image[65536];
- *         uint8_t out[64];
  *         FILE *file = fopen(count > 1 ? words[1] : "samples/tractor.mdf", "rb");
  *         if (file == NULL) return 2;
  *         size_t length = fread(image, 1, sizeof image, file);
  *         fclose(file);
+ *         uint8_t out[64];
  *         mdf_applied a = mdf_apply_unsigned(image, length, 2488, 4096, 6, out, sizeof out);
  *         if (a.kind == MDF_KIND_REFUSED) printf("refused %" PRIu32 " at %" PRIu64 "\n", a.refusal, a.address);
  *         if (a.kind == MDF_KIND_NUMBER) printf("number %.17g\n", a.number);
@@ -27,7 +27,7 @@
  *
  *     gcc -std=c11 -Iface/c example.c target/staticlib/libgateway.a -o example
  *
- * links it. The archive is for x86-64 and needs no library: of the C library it calls memcpy alone.
+ * links it. The archive is for x86-64 Linux and needs no library: it calls nothing of the C library.
  *
  * What a caller owes. Of every pointer that stands before a length:
  * - It points to that many elements. It is not null and fits its type's alignment, even where the length is 0: an empty slice may point to any
