@@ -6,7 +6,7 @@ use lib.Dec.{leb}
 use lib.ListN as ListN
 use lib.Ieee.{binary64, ofBits}
 use Rattle.words.specs.Words.{word16, word64, valueAt}
-use Rattle.common.specs.Header.{headerAt, inside, isConversion}
+use Rattle.common.specs.Header.{inside, isConversion}
 use Rattle.blocks.specs.declared.Fixed.{Fixed}
 use Rattle.blocks.specs.declared.Fields.{Fields}
 use Rattle.blocks.specs.declared.Range.{Range}

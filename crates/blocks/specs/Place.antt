@@ -1,8 +1,8 @@
 -- References and values read from the image by place (document 01, "References and values are read from the image by place").
 -- Assumes nothing: these are definitions.
-use Prim.Native.Nat.{ℕ, _+_, _-_, _*_}
+use Prim.Native.Nat.{ℕ, zero, suc, _+_, _-_, _*_}
 use mathlib.Core.Bool.{_&&_, cond}
-use mathlib.Core.List.{List}
+use mathlib.Core.List.{List, [], _∷_}
 use lib.Dec.{leb, ltb}
 use lib.ListN as ListN
 use lib.Ieee.{binary64, ofBits}
@@ -35,3 +35,13 @@ valueOf img b i = asValue (valueWordOf img b i)
 -- all of a block's references, in order
 unfoldable pub references : List ℕ → Block → List ℕ
 references img b = words img (b .firstref) (b .links - 4)
+
+-- and all of its values' 64 bits
+unfoldable pub valueWords : List ℕ → Block → List ℕ
+valueWords img b = words img (b .firstval) (b .valcount)
+
+-- the i-th of a list of words, where there is one
+unfoldable pub wordAt : List ℕ → ℕ → Word
+wordAt [] i = NoWord
+wordAt (w ∷ ws) zero = Bits w
+wordAt (w ∷ ws) (suc i) = wordAt ws i

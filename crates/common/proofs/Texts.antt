@@ -16,7 +16,7 @@ use Rattle.common.specs.declared.text.Text.{Text}
 use Rattle.common.specs.declared.text.Text.the-variants.{Part, NoText}
 
 -- ---- the bytes from i up to `to` begin with the byte at i
-pub first-byte : (img : List ℕ) (i to : ℕ) → i < to → to ≤ length img
+first-byte : (img : List ℕ) (i to : ℕ) → i < to → to ≤ length img
     → part img i to ≡ getD img i 0 ∷ part img (i + 1) to
 first-byte img i to h k =
     let n : to - i ≡ suc (to - (i + 1)) = omega arith in
@@ -104,6 +104,15 @@ text-shown img from to =
     let n : (from + length (untilZero bs)) - from ≡ length (untilZero bs) = omega arith in
     let few : length (untilZero bs) ≤ to - from = omega (arith, until-zero-short bs, length-take (to - from) (drop from img)) in
     ap (λ (k : ℕ). take k (drop from img)) n ∙ sym (take-take (length (untilZero bs)) (to - from) (drop from img) few) ∙ until-zero-front bs
+
+-- what a link's text shows is the text of the run that the link leads to; where there is no run there is no text
+pub text-of-shown : (img : List ℕ) (link from to : ℕ) → runOf img link ≡ Part from to → shown img (textOf img link) ≡ textBytes img from to
+unfolding textOf
+text-of-shown img link from to e = ap (λ (t : Text). shown img (cutOff img t)) e ∙ text-shown img from to
+
+pub text-of-none : (img : List ℕ) (link : ℕ) → runOf img link ≡ NoText → textOf img link ≡ NoText
+unfolding textOf
+text-of-none img link e = ap (cutOff img) e
 
 pub run-at-within : (img : List ℕ) (a : ℕ) → TextIn img (runAt img a)
 unfolding runAt isWholeText

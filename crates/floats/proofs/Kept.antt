@@ -1,10 +1,10 @@
 -- Laws of `keptBits`: what it is in each case, that it reads back as the float, and that of a float that was read it is the word read.
 -- Assumes nothing.
-use mathlib.Core.Path.{_≡_, refl, sym, ap, _∙_, subst}
-use mathlib.Core.Bool.{Bool, true, false, not, _&&_, cond}
+use mathlib.Core.Path.{_≡_, refl, sym, _∙_, subst}
+use mathlib.Core.Bool.{Bool, true, false, _&&_, cond}
 use Prim.Native.Nat.{ℕ, _<_, _^_}
 use lib.Dec.{T}
-use lib.Ieee.{Float, nan, binary64, isNan, nanBits, ofBits, toBits, fits}
+use lib.Ieee.{Float, binary64, isNan, nanBits, ofBits, toBits, fits}
 use lib.Ieee.Bits.{ofBits-toBits, toBits-ofBits, toBits-lt, nanBits-is}
 use Rattle.floats.specs.Kept.{keptBits}
 use Rattle.floats.proofs.Nan.{one-nan, nan-of-pattern, not-true}

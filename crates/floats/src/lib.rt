@@ -4,7 +4,7 @@
 // The language has one NaN and leaves `from_bits` and `to_bits` undefined there, so both functions test for it first.
 ghost use mathlib.Core.Path.{_≡_};
 ghost use lib.IntN.{pos};
-ghost use lib.Ieee.{binary64, ofBits, toBits, ofInt, isNan, nanBits};
+ghost use lib.Ieee.{binary64, ofBits, toBits, ofInt, nanBits};
 ghost use Rattle.floats.specs.Twos.{twos};
 ghost use Rattle.floats.specs.Kept.{keptBits};
 

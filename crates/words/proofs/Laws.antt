@@ -5,7 +5,7 @@ use Prim.Native.Nat.{ℕ, zero, suc, _+_, _*_, _/_, _%_, _^_, _≤_, _<_}
 use native.Mathlib.Nat.{add-zero, add-assoc}
 use native.Mathlib.Numerals.{add-one}
 use native.Mathlib.Omega.{arith}
-use lib.ListN.{length, getD, drop, set, length-set, length-append, drop-of-length-le}
+use lib.ListN.{length, getD, drop, set, length-set, drop-of-length-le}
 use lib.Seq.{sets, sets-eq, getD-append-add, drop-cons}
 use lib.Ieee.{Float, binary64, toBits}
 use Rattle.words.specs.Words.{word16, word32, word64, words, bytes2, bytes4, bytes8, put, links}

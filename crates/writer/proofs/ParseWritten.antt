@@ -3,7 +3,7 @@
 use mathlib.Core.Path.{_≡_, refl, sym, ap, _∙_}
 use mathlib.Core.Bool.{Bool, true, false}
 use mathlib.Core.List.{List, [], _++_, append-assoc}
-use Prim.Native.Nat.{ℕ, _+_, _*_, _^_, _≤_, _<_}
+use Prim.Native.Nat.{ℕ, _+_, _-_, _*_, _^_, _≤_, _<_}
 use native.Mathlib.Nat.{add-zero}
 use native.Mathlib.Omega.{arith}
 use borrow.Author.Tests.{le-leb, lt-leb, eq-eqb}
@@ -17,6 +17,8 @@ use Rattle.floats.specs.Kept.{keptBits}
 use Rattle.common.specs.Header.{headerAt, inside, isConversion, conversionId}
 use Rattle.blocks.specs.Block.{fixedAt, refCount, fieldsPlace, fieldsAt, valCount, hasRange, isRanged, rangeSize, rangeAt, valuesPlace, blockEnd, blockAt, opened, parsed}
 use Rattle.blocks.specs.Make.{fixedOf}
+use Rattle.blocks.specs.Place.{wordIn, referenceOf, valueWordOf, wordAt}
+use Rattle.blocks.proofs.Places.{by-place}
 use Rattle.writer.specs.Write.{writeSize, headerBytes, fixedBytes, fieldBytes, rangeBytes, frontBytes, blockBytes, writeAnswer, outputHolds, WriteCall, writeCall, writing}
 use Rattle.writer.specs.Stored.{storedFields, storedRange, stored, Sized}
 use Rattle.writer.proofs.Writing.{length-range, length-block, answer-fits}
@@ -151,13 +153,24 @@ module _ (front rest : List ℕ) (b : Block) (refs values : List ℕ) where
       next image (rangeBytes b (b .ranged)) fromValues (a + 64 + 8 * n) (a + 64 + 8 * n + rangeSize (b .ranged)) at-range
       (omega (arith, length-range b (b .ranged)))
 
-  pub references-written : Words64 refs → words (front ++ (blockBytes b refs values ++ rest)) (length front + 56) (length refs) ≡ refs
-  references-written = listed image (a + 56) refs fromFields at-refs
+  long-enough : a + size ≤ length image
+  long-enough = omega (arith, length-append front (blockBytes b refs values ++ rest), length-append (blockBytes b refs values) rest, length-block b refs values)
 
-  pub values-written : Words64 values
-      → words (front ++ (blockBytes b refs values ++ rest)) (stored (length front) b (length refs) (length values) .firstval) (length values) ≡ values
-  unfolding stored
-  values-written = listed image (a + 64 + 8 * n + rangeSize (b .ranged)) values rest at-values
+  -- of the record that parsing gives, the references and values read by place are those written, and there is none behind the last
+  pub references-written : Words64 refs → (i : ℕ)
+      → referenceOf (front ++ (blockBytes b refs values ++ rest)) (stored (length front) b (length refs) (length values)) i ≡ wordAt refs i
+  unfolding stored referenceOf writeSize
+  references-written h i =
+      let count : (4 + n) - 4 ≡ n = omega arith in
+      ap (λ (k : ℕ). wordIn image (a + 56) k i) count ∙ by-place image (a + 56) n i (omega (arith, long-enough))
+      ∙ ap (λ (ws : List ℕ). wordAt ws i) (listed image (a + 56) refs fromFields at-refs h)
+
+  pub values-written : Words64 values → (i : ℕ)
+      → valueWordOf (front ++ (blockBytes b refs values ++ rest)) (stored (length front) b (length refs) (length values)) i ≡ wordAt values i
+  unfolding stored valueWordOf writeSize
+  values-written h i =
+      let p = a + 64 + 8 * n + rangeSize (b .ranged) in
+      by-place image p (length values) i (omega (arith, long-enough)) ∙ ap (λ (ws : List ℕ). wordAt ws i) (listed image p values rest at-values h)
 
   -- what parsing reads, in the order in which one place follows from another
   module _ (sized : Sized b) (few : length values ≤ 65535) (fits : writeSize (b .ranged) (length refs) (length values) < 2 ^ 64) where
@@ -210,14 +223,29 @@ module _ (front rest : List ℕ) (b : Block) (refs values : List ℕ) where
         let block : blockAt image a ≡ stored a b n (length values) = cc (long, linked, fixed, fields, range, behind) in
         rw (first, second, le-leb (blockEnd image a) (length image) end) (ap Whole block)
 
--- ---- the same, said of the writer's own answer: where it wrote, the output parses at 0
+-- ---- the same, said of the writer's own answer: where it wrote, the output parses at 0, and reads by place as it was written
+answered : (b : Block) (refs values out : List ℕ) (k : ℕ) (img : List ℕ) → writing b refs values out ≡ writeCall (Bytes k) img
+    → writeAnswer (b .ranged) (length refs) (length values) (length out) ≡ Bytes k
+unfolding writing
+answered b refs values out k img e = ap (λ (o : WriteCall). o .result) e
+
+held : (b : Block) (refs values out : List ℕ) (k : ℕ) (img : List ℕ) → writing b refs values out ≡ writeCall (Bytes k) img
+    → blockBytes b refs values ++ drop k out ≡ img
+unfolding writing
+held b refs values out k img e =
+    ap (λ (w : Written). outputHolds w (blockBytes b refs values) out) (sym (answered b refs values out k img e)) ∙ ap (λ (o : WriteCall). o .output) e
+
 pub output-parses : (b : Block) (refs values out : List ℕ) (k : ℕ) (img : List ℕ) → Sized b
     → writeSize (b .ranged) (length refs) (length values) < 2 ^ 64 → writing b refs values out ≡ writeCall (Bytes k) img
     → parsed img 0 ≡ Whole (stored 0 b (length refs) (length values))
-unfolding writing
 output-parses b refs values out k img sized fits e =
-    let says : writeAnswer (b .ranged) (length refs) (length values) (length out) ≡ Bytes k = ap (λ (o : WriteCall). o .result) e in
-    let holds : outputHolds (Bytes k) (blockBytes b refs values) out ≡ img =
-    ap (λ (w : Written). outputHolds w (blockBytes b refs values) out) (sym says) ∙ ap (λ (o : WriteCall). o .output) e in
-    let fit = answer-fits (b .ranged) (length refs) (length values) (length out) k says in
-    rw (sym holds) (parse-written [] (drop k out) b refs values sized (fit .few) fits)
+    let fit = answer-fits (b .ranged) (length refs) (length values) (length out) k (answered b refs values out k img e) in
+    rw (sym (held b refs values out k img e)) (parse-written [] (drop k out) b refs values sized (fit .few) fits)
+
+pub output-reads : (b : Block) (refs values out : List ℕ) (k : ℕ) (img : List ℕ) → Words64 refs → Words64 values
+    → writing b refs values out ≡ writeCall (Bytes k) img → (i : ℕ)
+    → (referenceOf img (stored 0 b (length refs) (length values)) i ≡ wordAt refs i)
+    × (valueWordOf img (stored 0 b (length refs) (length values)) i ≡ wordAt values i)
+output-reads b refs values out k img h g e i =
+    rw (sym (held b refs values out k img e))
+    (references-written [] (drop k out) b refs values h i, values-written [] (drop k out) b refs values g i)

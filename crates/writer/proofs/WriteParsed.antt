@@ -3,24 +3,28 @@
 use mathlib.Core.Path.{_≡_, refl, sym, ap, _∙_}
 use mathlib.Core.Bool.{Bool, true, false}
 use mathlib.Core.List.{List, [], _∷_, _++_}
-use Prim.Native.Nat.{ℕ, _+_, _-_, _*_, _≤_}
+use Prim.Native.Nat.{ℕ, _+_, _-_, _*_, _≤_, _<_}
 use native.Mathlib.Omega.{arith}
 use borrow.Author.Tests.{eqb-true}
-use lib.ListN.{length, take, drop}
+use lib.ListN.{length, take, drop, length-drop}
+use lib.Seq.{length-take-le}
 use lib.Ieee.{Float, binary64, ofBits, toBits, nanBits}
 use Rattle.words.specs.Words.{word16, word32, word64, words, valueAt, links, bytes2, bytes4, bytes8}
 use Rattle.words.proofs.Laws.{Words64}
-use Rattle.words.proofs.Slices.{Bytes, join, two-bytes, bytes2-word16, bytes4-word32, bytes8-word64, links-words, length-words, word64-small, words-small}
+use Rattle.words.proofs.Slices.{Bytes, join, two-bytes, bytes2-word16, bytes4-word32, bytes8-word64, links-words, length-words, word16-small, word64-small, words-small}
 use Rattle.floats.specs.Kept.{keptBits}
 use Rattle.floats.proofs.Kept.{own-if-plain, kept-of-read}
 use Rattle.common.specs.Header.{isConversion, conversionId}
 use Rattle.blocks.specs.Block.{fixedAt, refCount, fieldsPlace, fieldsAt, valCount, isRanged, rangeSize, rangeAt, valuesPlace, blockEnd, blockAt, parsed}
-use Rattle.writer.specs.Write.{writeSize, headerBytes, fixedBytes, fieldBytes, rangeBytes, frontBytes, blockBytes, throughFloats}
+use Rattle.blocks.specs.Place.{references, valueWords}
+use Rattle.writer.specs.Write.{writeSize, headerBytes, fixedBytes, fieldBytes, rangeBytes, frontBytes, blockBytes, throughFloats, writeCall, writing}
 use Rattle.blocks.specs.declared.Range.{Range}
 use Rattle.blocks.specs.declared.Block.{Block}
 use Rattle.blocks.specs.declared.Parsed.the-variants.{Whole}
 use Rattle.blocks.specs.Make.{rangeOf}
 use Rattle.blocks.proofs.Opening.{parsed-whole}
+use Rattle.writer.specs.declared.Written.the-variants as written
+use Rattle.writer.proofs.Writing.{length-block, block-written}
 
 -- ---- xs are the bytes of s from one place up to another
 record Part (s : List ℕ) (from to : ℕ) (xs : List ℕ) : Type 0 where
@@ -119,16 +123,37 @@ module _ (s : List ℕ) (h : Bytes s) where
         both (both (both (both (both (header-part _ _ size linked id none) fixed-part) refs-part) (fields-part _ count)) range)
         (many (valCount s a) (valuesPlace s a) (blockEnd s a) refl fits)
 
-pub write-parsed : (img : List ℕ) (a : ℕ) (b : Block) → Bytes img → parsed img a ≡ Whole b → word32 img (a + 4) ≡ 0 → 4 ≤ b .links
-    → b .length + a ≡ blockEnd img a
-    → blockBytes b (words img (b .firstref) (b .links - 4)) (words img (b .firstval) (b .valcount)) ≡ take (b .length) (drop a img)
-unfolding isConversion blockAt fieldsAt valCount refCount
-write-parsed img a b h whole none enough long =
-    let w = parsed-whole img a b whole in
-    let id = eqb-true (word32 img a) conversionId (w .conversion) in
-    let all = block-part img h a (w .fits) id none (rw (w .same) at enough) (rw (w .same) at long) in
-    let size : blockEnd img a - a ≡ b .length = omega arith in
-    rw (w .same) (all .same ∙ ap (λ (k : ℕ). take k (drop a img)) (rw (w .same) at size))
+-- a block b that was parsed: its reserved bytes are zero, it has the fixed links, and its length is that of the bytes read
+module _ (img : List ℕ) (a : ℕ) (b : Block) (h : Bytes img) (whole : parsed img a ≡ Whole b) (none : word32 img (a + 4) ≡ 0) (enough : 4 ≤ b .links)
+    (long : b .length + a ≡ blockEnd img a) where
+  same-bytes : blockBytes b (references img b) (valueWords img b) ≡ take (b .length) (drop a img)
+  unfolding references valueWords isConversion blockAt fieldsAt valCount refCount
+  same-bytes =
+      let w = parsed-whole img a b whole in
+      let id = eqb-true (word32 img a) conversionId (w .conversion) in
+      let all = block-part img h a (w .fits) id none (rw (w .same) at enough) (rw (w .same) at long) in
+      let size : blockEnd img a - a ≡ b .length = omega arith in
+      rw (w .same) (all .same ∙ ap (λ (k : ℕ). take k (drop a img)) (rw (w .same) at size))
+
+  few : length (valueWords img b) ≤ 65535
+  unfolding valueWords blockAt fieldsAt
+  few =
+      let count : b .valcount < 65536 = rw (parsed-whole img a b whole .same) (word16-small img h _) in
+      omega (arith, length-words img (b .firstval) (b .valcount))
+
+  size : writeSize (b .ranged) (length (references img b)) (length (valueWords img b)) ≡ b .length
+  size =
+      sym (length-block b (references img b) (valueWords img b)) ∙ ap length same-bytes
+      ∙ length-take-le (b .length) (drop a img) (omega (arith, length-drop a img, parsed-whole img a b whole .fits))
+
+-- writing it with its references and values, into an output with room: the block's bytes as the image has them, and behind them what was there
+pub write-parsed : (img : List ℕ) (a : ℕ) (b : Block) (out : List ℕ) → Bytes img → parsed img a ≡ Whole b → word32 img (a + 4) ≡ 0 → 4 ≤ b .links
+    → b .length + a ≡ blockEnd img a → b .length ≤ length out
+    → writing b (references img b) (valueWords img b) out ≡ writeCall (written.Bytes (b .length)) (take (b .length) (drop a img) ++ drop (b .length) out)
+write-parsed img a b out h whole none enough long room =
+    block-written b (references img b) (valueWords img b) out (b .length)
+    (few img a b h whole none enough long) (size img a b h whole none enough long) room
+    ∙ ap (λ (bs : List ℕ). writeCall (written.Bytes (b .length)) (bs ++ drop (b .length) out)) (same-bytes img a b h whole none enough long)
 
 -- ---- values that are no NaN may pass through floats
 abbrev pub NoNan : List ℕ → Type 0
@@ -141,10 +166,12 @@ float-form (w ∷ ws) h p =
     let first : toBits binary64 (ofBits binary64 w) ≡ w = sym (own-if-plain (ofBits binary64 w) w (p .0)) ∙ kept-of-read w (h .0) in
     cc (float-form ws (h .1) (p .1))
 
-pub write-parsed-floats : (img : List ℕ) (a : ℕ) (b : Block) → Bytes img → parsed img a ≡ Whole b → word32 img (a + 4) ≡ 0 → 4 ≤ b .links
-    → b .length + a ≡ blockEnd img a → NoNan (words img (b .firstval) (b .valcount))
-    → blockBytes b (words img (b .firstref) (b .links - 4)) (throughFloats (words img (b .firstval) (b .valcount)))
-    ≡ take (b .length) (drop a img)
-write-parsed-floats img a b h whole none enough long plain =
-    rw (float-form (words img (b .firstval) (b .valcount)) (words-small img h (b .firstval) (b .valcount)) plain)
-    (write-parsed img a b h whole none enough long)
+-- the same with the values as floats
+pub write-parsed-floats : (img : List ℕ) (a : ℕ) (b : Block) (out : List ℕ) → Bytes img → parsed img a ≡ Whole b → word32 img (a + 4) ≡ 0
+    → 4 ≤ b .links → b .length + a ≡ blockEnd img a → b .length ≤ length out → NoNan (valueWords img b)
+    → writing b (references img b) (throughFloats (valueWords img b)) out
+    ≡ writeCall (written.Bytes (b .length)) (take (b .length) (drop a img) ++ drop (b .length) out)
+unfolding valueWords
+write-parsed-floats img a b out h whole none enough long room plain =
+    rw (float-form (valueWords img b) (words-small img h (b .firstval) (b .valcount)) plain)
+    (write-parsed img a b out h whole none enough long room)

@@ -11,7 +11,7 @@ use Rattle.words.proofs.Clash.{clash}
 use Rattle.words.specs.Words.{put, links}
 use Rattle.words.proofs.Laws.{put-append, five-puts, put-front, length-links}
 use Rattle.blocks.specs.Block.{rangeSize}
-use Rattle.writer.specs.Write.{writeSize, headerBytes, fixedBytes, fieldBytes, rangeBytes, frontBytes, blockBytes, writeAnswer, writeCall, writing}
+use Rattle.writer.specs.Write.{writeSize, headerBytes, fixedBytes, fieldBytes, rangeBytes, frontBytes, blockBytes, writeAnswer, outputHolds, writeCall, writing}
 use Rattle.blocks.specs.declared.Block.{Block}
 use Rattle.common.specs.declared.refusal.Refusal.{Refusal}
 use Rattle.common.specs.declared.refusal.Refusal.the-variants.{Room, Count}
@@ -89,6 +89,15 @@ module _ (ranged : Bool) (refs values room : ℕ) where
           record { few = ltb-false _ _ p; sized = same; room-enough = omega (arith, ltb-false room (writeSize ranged refs values) q) }
       go false true p q e = clash cc
       go true y p q e = clash cc
+
+-- few values, and room for all of the block: it is written from byte 0 on, and behind it the output is as it was
+pub block-written : (b : Block) (refs values out : List ℕ) (n : ℕ) → ListN.length values ≤ 65535
+    → writeSize (b .ranged) (ListN.length refs) (ListN.length values) ≡ n → n ≤ ListN.length out
+    → writing b refs values out ≡ writeCall (Bytes n) (blockBytes b refs values ++ ListN.drop n out)
+unfolding writing
+block-written b refs values out n few size room =
+    let answered = enough (b .ranged) (ListN.length refs) (ListN.length values) (ListN.length out) few (omega arith) in
+    ap (λ (w : Written). writeCall w (outputHolds w (blockBytes b refs values) out)) (answered ∙ ap Bytes size)
 
 -- ---- the output; both writers cite these, for k values that are spelled by `values`
 module _ (b : Block) (refs values out : List ℕ) (k : ℕ) (counted : k ≡ ListN.length values) (says : Written)

@@ -11,7 +11,6 @@ use Rattle.words.specs.Words.{bytes2, bytes4, bytes8, links}
 use Rattle.common.specs.Header.{conversionId}
 use Rattle.blocks.specs.Block.{rangeSize}
 use Rattle.blocks.specs.declared.Block.{Block}
-use Rattle.common.specs.declared.refusal.Refusal.{Refusal}
 use Rattle.common.specs.declared.refusal.Refusal.the-variants.{Room, Count}
 use Rattle.writer.specs.declared.Written.{Written}
 use Rattle.writer.specs.declared.Written.the-variants.{Bytes, Unwritten}

@@ -2,7 +2,7 @@
 use mathlib.Core.Path.{_≡_, ap}
 use Prim.Native.Nat.{_+_}
 use native.Mathlib.Omega.{arith}
-use Rattle.blocks.specs.Block.{rangeSize, rangeAt}
+use Rattle.blocks.specs.Block.{rangeSize}
 use borrow.Author.Needs.{needs}
 use Rattle.blocks.proofs.range_at.Statement.{statement}
 use Rattle.blocks.proofs.range_at.Tie as tie

@@ -1,9 +1,7 @@
 -- `words::put_links` meets its contract. Assumes nothing.
 use borrow.Author.Needs.{needs}
 use Prim.Native.Nat.{_-_}
-use native.Mathlib.Omega.{arith}
 use lib.ListN.{length}
-use denote.Ref.{now}
 use Rattle.words.proofs.Laws.{Putting, putting-none, putting-more, putting-done}
 use Rattle.words.proofs.put_links.Statement.{statement}
 use Rattle.words.proofs.put_links.Tie as tie

@@ -1,5 +1,5 @@
 -- `blocks::Block::with_range` meets its contract. Assumes nothing.
-use mathlib.Core.Path.{_≡_, ap, _∙_}
+use mathlib.Core.Path.{ap, _∙_}
 use mathlib.Core.Bool.{true}
 use Prim.Native.Nat.{ℕ}
 use Rattle.blocks.specs.Block.{recordFrom}
