@@ -116,10 +116,10 @@ pub fn write(block: Block, refs: &[u64], values: &[f64], out: &mut [u8]) -> Writ
 {
     let says = answer(block.ranged, refs.len(), values.len(), out.len());
     match says {
-        Written::Bytes(n) => {
-            let at = put_front(block, out, refs, values.len() as u16, n as u64);
+        Written::Bytes(size) => {
+            let at = put_front(block, out, refs, values.len() as u16, size as u64);
             words::put_floats(out, at, values);
-            Written::Bytes(n)
+            Written::Bytes(size)
         }
         Written::Unwritten(r) => Written::Unwritten(r),
     }
