@@ -43,7 +43,8 @@ pub few-visits : (mode : Mode) (img t : List ℕ) (a l n : ℕ) (v : Value) → 
 few-visits mode img t a l n v e = shallow 21 mode img t a v (acceptance img a l n e .sound)
 
 -- ---- what a call answers
-after-check : (mode : Mode) (img : List ℕ) (a l n : ℕ) (v : Value) (t out : List ℕ) → checked img a l ≡ Accepted n
+-- a call whose check accepts answers what applying says
+pub after-check : (mode : Mode) (img : List ℕ) (a l n : ℕ) (v : Value) (t out : List ℕ) → checked img a l ≡ Accepted n
     → applying mode img a l v t out ≡ settled n a (applied 21 mode img t a v) out
 unfolding applying
 after-check mode img a l n v t out e = ap (λ (c : Checked). byCheck c (λ m. settled m a (applied 21 mode img t a v) out) out) e

@@ -3,6 +3,7 @@ pub mod Steps
 pub mod OneBlock
 pub mod Reach
 pub mod Demand
+pub mod DemandThree
 pub mod Showing
 pub mod Shows
 pub mod Settling
