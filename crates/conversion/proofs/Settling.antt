@@ -18,7 +18,6 @@ use Rattle.pieces.specs.Answer as says
 use Rattle.pieces.specs.Did.{Says, SaysText, laid, laidText}
 use Rattle.pieces.specs.declared.said.Said.{Said}
 use Rattle.pieces.specs.declared.said.Said.the-variants as said
-use Rattle.pieces.specs.declared.said.Outcome.{Outcome}
 use Rattle.pieces.proofs.said.Said as saids
 use Rattle.pieces.proofs.Laws.{below?, next}
 use Rattle.engine.specs.Apply.{Ap}

@@ -167,10 +167,3 @@ module _ (img : List ℕ) (b : Block) where
   pub chosen-range : (x : Taken) → Chosen (chosenRange img (viewOf b) x)
   chosen-range (took.Number x whole) = chosen-followed (rangeSearch whole (values img (b .firstval) (b .valcount)) x) true
   chosen-range took.NoNumber = tt
-
-  -- so a nested block that is chosen is a reference of the block
-  pub key-reference : (x : Taken) (a : ℕ) → chosenKey img (viewOf b) x ≡ choice.Nested a → Reference img b a
-  key-reference x a e = subst Chosen e (chosen-key x)
-
-  pub range-reference : (x : Taken) (a : ℕ) → chosenRange img (viewOf b) x ≡ choice.Nested a → Reference img b a
-  range-reference x a e = subst Chosen e (chosen-range x)

@@ -5,7 +5,7 @@
 use Prim.Native.Nat.{ℕ, _+_, _*_}
 use mathlib.Core.Bool.{Bool, true, false}
 use mathlib.Core.List.{List, [], _∷_, _++_}
-use lib.IntN.{pos, negsuc}
+use lib.IntN.{negsuc}
 use lib.Ieee.{Float, nan, binary64, ofBits, toBits}
 use lib.ListN.{length, replicate}
 use Rattle.words.specs.Words.{bytes2, bytes4, bytes8, links}

@@ -1,7 +1,7 @@
 -- Applying a conversion to a value (document 01, "Applying"): what is answered, and the blocks begun, by recursion on the levels left. Every rule
 -- takes the nested application as an argument. Assumes nothing: these are definitions.
 use Prim.Native.Nat.{ℕ, zero, suc, min}
-use mathlib.Core.Bool.{Bool, true, false}
+use mathlib.Core.Bool.{Bool}
 use mathlib.Core.List.{List, [], _∷_, _++_}
 use lib.ListN.{length}
 use lib.Bits.{bitAnd}

@@ -8,7 +8,7 @@ ghost use mathlib.Core.List.{[]};
 ghost use lib.ListN.{length};
 ghost use Rattle.words.specs.Words.{PartIn};
 ghost use Rattle.common.specs.Text.{textBytes};
-ghost use Rattle.leads.specs.Keys.{sameBytes, isKey, firstText, valueKey, pairCount, outputAt, translated};
+ghost use Rattle.leads.specs.Keys.{sameBytes, isKey, firstText, valueKey, outputAt, translated};
 ghost use Rattle.leads.specs.Lead.{leadAt};
 
 // Whether a text that runs up to `to` ends at p.

@@ -1,5 +1,5 @@
 -- Tables of pairs, and range to value (document 01, "Applying"), over the list of a block's values. Assumes nothing: these are definitions.
-use Prim.Native.Nat.{ℕ, suc, _-_, _%_}
+use Prim.Native.Nat.{suc, _%_}
 use mathlib.Core.List.{List, [], _∷_}
 use mathlib.Core.Bool.{Bool, true, false, not, _&&_, _||_, cond}
 use lib.ListN.{length, getD}

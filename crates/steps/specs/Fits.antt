@@ -1,5 +1,5 @@
 -- What is known of a whole block that is seen in an image; for inner contracts. Assumes nothing: a definition.
-use Prim.Native.Nat.{ℕ, _+_, _-_, _*_, _≤_}
+use Prim.Native.Nat.{ℕ, _+_, _*_, _≤_}
 use mathlib.Core.List.{List}
 use lib.ListN as ListN
 use Rattle.blocks.specs.declared.view.View.{View}

@@ -14,7 +14,6 @@ use rules::number::take;
 use rules::table_lookup::apply_range_value;
 use rules::table_lookup::apply_table;
 ghost use mathlib.Core.Path.{_≡_};
-ghost use lib.ListN.{length};
 ghost use Rattle.rules.specs.Numbers.{taken};
 ghost use Rattle.rules.specs.Values.{values};
 ghost use Rattle.steps.specs.Plain.{byNumber, byTaken, isTextValue, textToValue, textToText, PlainIn};

@@ -4,7 +4,6 @@ mod Apply
 mod BitGroups
 mod Part
 mod PassOn
-use Prim.Native.Nat.{_+_, _-_}
 use Rattle.engine.proofs.apply.Reads as apply
 use Rattle.engine.proofs.+apply+bit_groups+part+pass_on+range_to_text+value_to_text.Lts-apply as apply-lts
 use Rattle.engine.proofs.bit_groups.Reads as bit-groups

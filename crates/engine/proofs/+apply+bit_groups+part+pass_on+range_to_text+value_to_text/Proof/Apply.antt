@@ -7,7 +7,7 @@ use Rattle.pieces.specs.Answer.{broken}
 use Rattle.pieces.proofs.Answers.{told-as, quiet-did}
 use Rattle.engine.specs.Apply.{applied}
 use Rattle.engine.proofs.Levels.{level, one-more}
-use Prim.Native.Nat.{ℕ, _-_}
+use Prim.Native.Nat.{ℕ}
 use borrow.Author.Needs.{needs}
 use native.Mathlib.Omega.{arith}
 use Rattle.engine.proofs.apply.Reads as apply

@@ -4,7 +4,7 @@ use mathlib.Core.Path.{subst}
 use denote.Ref.{now}
 use Rattle.steps.specs.Choice.{ChoiceIn}
 use Rattle.pieces.proofs.Answers.{told-as}
-use Prim.Native.Nat.{ℕ, _-_}
+use Prim.Native.Nat.{ℕ}
 use borrow.Author.Needs.{needs}
 use native.Mathlib.Omega.{arith}
 use Rattle.engine.proofs.pass_on.Reads as pass-on

@@ -2,7 +2,7 @@
 use mir.Syntax.{w64}
 use mir.ValLaws.{toZ-ofZ}
 use mathlib.Core.Path.{sym, ap, _∙_}
-use mathlib.Core.Bool.{true, false}
+use mathlib.Core.Bool.{true}
 use lib.Ieee as Ieee
 use Rattle.rules.specs.Numbers.{taken}
 use Rattle.rules.specs.declared.number.Taken.the-variants.{Number}
