@@ -2,7 +2,7 @@
 use mathlib.Core.Path.{_≡_}
 use Prim.Native.Nat.{_+_, _-_, _≤_}
 use native.Mathlib.Omega.{arith}
-use lib.ListN.{take, drop, length-drop}
+use lib.ListN.{drop, length-drop}
 use Rattle.words.specs.Words.{part}
 use denote.Ref.{now}
 use borrow.Author.Needs.{needs}
