@@ -9,7 +9,7 @@ use borrow.Author.Tests.{eqb-true}
 use lib.ListN.{length, take, drop, length-drop}
 use lib.Seq.{length-take-le}
 use lib.Ieee.{Float, binary64, ofBits, toBits, nanBits}
-use Rattle.words.specs.Words.{word16, word32, word64, words, valueAt, links, bytes2, bytes4, bytes8}
+use Rattle.words.specs.Words.{word16, word32, word64, words, valueAt, links, bytes2, bytes4, bytes8, part}
 use Rattle.words.proofs.Laws.{Words64}
 use Rattle.words.proofs.Slices.{Bytes, join, two-bytes, bytes2-word16, bytes4-word32, bytes8-word64, links-words, length-words, word16-small, word64-small, words-small}
 use Rattle.floats.specs.Kept.{keptBits}
@@ -27,19 +27,19 @@ use Rattle.writer.specs.declared.Written.the-variants as written
 use Rattle.writer.proofs.Writing.{length-block, block-written}
 
 -- ---- xs are the bytes of s from one place up to another
-record Part (s : List ℕ) (from to : ℕ) (xs : List ℕ) : Type 0 where
+record IsPart (s : List ℕ) (from to : ℕ) (xs : List ℕ) : Type 0 where
   forward : from ≤ to
-  same : xs ≡ take (to - from) (drop from s)
+  same : xs ≡ part s from to
 
-part : {xs : List ℕ} (s : List ℕ) (from to size : ℕ) → from + size ≡ to → xs ≡ take size (drop from s) → Part s from to xs
-part s from to size e same =
+is-part : {xs : List ℕ} (s : List ℕ) (from to size : ℕ) → from + size ≡ to → xs ≡ take size (drop from s) → IsPart s from to xs
+is-part s from to size e same =
     let long : size ≡ to - from = omega arith in
     record { forward = omega arith; same = cc }
 
-both : {s : List ℕ} {from mid to : ℕ} {xs ys : List ℕ} → Part s from mid xs → Part s mid to ys → Part s from to (xs ++ ys)
+both : {s : List ℕ} {from mid to : ℕ} {xs ys : List ℕ} → IsPart s from mid xs → IsPart s mid to ys → IsPart s from to (xs ++ ys)
 both {s} {from} {mid} {to} first second =
     let place : mid ≡ from + (mid - from) = omega arith in
-    part s from to ((mid - from) + (to - mid)) (omega arith) (join s from (mid - from) (to - mid) (first .same) (cc))
+    is-part s from to ((mid - from) + (to - mid)) (omega arith) (join s from (mid - from) (to - mid) (first .same) (cc))
 
 -- ---- whether a range that was read is there
 range-is : (s : List ℕ) (p : ℕ) (r : Bool) → rangeAt s p r .ranged ≡ r
@@ -48,17 +48,17 @@ range-is s p false = refl
 
 -- ---- each number stands where it was read
 module _ (s : List ℕ) (h : Bytes s) where
-  two : (v from to : ℕ) → v ≡ word16 s from → from + 2 ≡ to → to ≤ length s → Part s from to (bytes2 v)
-  two v from to e f fits = part s from to 2 f (ap bytes2 e ∙ bytes2-word16 s h from (omega arith))
+  two : (v from to : ℕ) → v ≡ word16 s from → from + 2 ≡ to → to ≤ length s → IsPart s from to (bytes2 v)
+  two v from to e f fits = is-part s from to 2 f (ap bytes2 e ∙ bytes2-word16 s h from (omega arith))
 
-  four : (v from to : ℕ) → v ≡ word32 s from → from + 4 ≡ to → to ≤ length s → Part s from to (bytes4 v)
-  four v from to e f fits = part s from to 4 f (ap bytes4 e ∙ bytes4-word32 s h from (omega arith))
+  four : (v from to : ℕ) → v ≡ word32 s from → from + 4 ≡ to → to ≤ length s → IsPart s from to (bytes4 v)
+  four v from to e f fits = is-part s from to 4 f (ap bytes4 e ∙ bytes4-word32 s h from (omega arith))
 
-  eight : (v from to : ℕ) → v ≡ word64 s from → from + 8 ≡ to → to ≤ length s → Part s from to (bytes8 v)
-  eight v from to e f fits = part s from to 8 f (ap bytes8 e ∙ bytes8-word64 s h from (omega arith))
+  eight : (v from to : ℕ) → v ≡ word64 s from → from + 8 ≡ to → to ≤ length s → IsPart s from to (bytes8 v)
+  eight v from to e f fits = is-part s from to 8 f (ap bytes8 e ∙ bytes8-word64 s h from (omega arith))
 
-  many : (n from to : ℕ) → from + 8 * n ≡ to → to ≤ length s → Part s from to (links (words s from n))
-  many n from to f fits = part s from to (8 * n) f (links-words s h from n (omega arith))
+  many : (n from to : ℕ) → from + 8 * n ≡ to → to ≤ length s → IsPart s from to (links (words s from n))
+  many n from to f fits = is-part s from to (8 * n) f (links-words s h from n (omega arith))
 
   -- ---- each part of a block
   -- for a float that was read, the word that was read is written, a NaN's too
@@ -68,13 +68,13 @@ module _ (s : List ℕ) (h : Bytes s) where
 
   -- a range that was read, or none
   range-part : (b : Block) (r : Bool) (from to : ℕ) → rangeOf b ≡ rangeAt s from r → from + rangeSize r ≡ to → to ≤ length s
-      → Part s from to (rangeBytes b (b .ranged))
+      → IsPart s from to (rangeBytes b (b .ranged))
   range-part b true from to e f fits =
       let ranged : b .ranged ≡ true = ap (λ (x : Range). x .ranged) e in
       let low = kept from (ap (λ (x : Range). x .minimum) e) (ap (λ (x : Range). x .minword) e) in
       let high = kept (from + 8) (ap (λ (x : Range). x .maximum) e) (ap (λ (x : Range). x .maxword) e) in
       rw ranged (both (eight _ from (from + 8) low refl (omega arith)) (eight _ (from + 8) to high (omega arith) fits))
-  range-part b false from to e f fits = let ranged : b .ranged ≡ false = ap (λ (x : Range). x .ranged) e in rw ranged (part s from to 0 f refl)
+  range-part b false from to e f fits = let ranged : b .ranged ≡ false = ap (λ (x : Range). x .ranged) e in rw ranged (is-part s from to 0 f refl)
 
   -- the block at a, read whole
   module _ (a : ℕ) (fits : blockEnd s a ≤ length s) where
@@ -85,34 +85,34 @@ module _ (s : List ℕ) (h : Bytes s) where
     values = words s (valuesPlace s a) (valCount s a)
 
     header-part : (size count : ℕ) → size ≡ word64 s (a + 8) → count ≡ word64 s (a + 16) → word32 s a ≡ conversionId → word32 s (a + 4) ≡ 0
-        → Part s a (a + 24) (headerBytes size count)
+        → IsPart s a (a + 24) (headerBytes size count)
     unfolding headerBytes blockEnd valuesPlace fieldsPlace
     header-part size count e f id none =
         both (four conversionId a (a + 4) (sym id) refl (omega arith))
         (both (four 0 (a + 4) (a + 8) (sym none) (omega arith) (omega arith))
         (both (eight size (a + 8) (a + 16) e (omega arith) (omega arith)) (eight count (a + 16) (a + 24) f (omega arith) (omega arith))))
 
-    fixed-part : Part s (a + 24) (a + 56) (fixedBytes (blockAt s a))
+    fixed-part : IsPart s (a + 24) (a + 56) (fixedBytes (blockAt s a))
     unfolding blockAt fixedBytes fixedAt blockEnd valuesPlace fieldsPlace
     fixed-part =
         both (eight _ (a + 24) (a + 24 + 8) refl refl (omega arith))
         (both (eight _ (a + 24 + 8) (a + 24 + 16) refl (omega arith) (omega arith))
         (both (eight _ (a + 24 + 16) (a + 24 + 24) refl (omega arith) (omega arith)) (eight _ (a + 24 + 24) (a + 56) refl (omega arith) (omega arith))))
 
-    refs-part : Part s (a + 56) (fieldsPlace s a) (links refs)
+    refs-part : IsPart s (a + 56) (fieldsPlace s a) (links refs)
     unfolding blockEnd valuesPlace fieldsPlace
     refs-part = many (refCount s a) (a + 56) (fieldsPlace s a) (omega arith) (omega arith)
 
-    fields-part : (count : ℕ) → count ≡ valCount s a → Part s (fieldsPlace s a) (fieldsPlace s a + 8) (fieldBytes (blockAt s a) count)
+    fields-part : (count : ℕ) → count ≡ valCount s a → IsPart s (fieldsPlace s a) (fieldsPlace s a + 8) (fieldBytes (blockAt s a) count)
     unfolding blockAt fieldBytes fieldsAt valCount blockEnd valuesPlace
     fields-part count e =
         let p = fieldsPlace s a in
-        both (part s p (p + 2) 2 refl (two-bytes s p (omega arith)))
+        both (is-part s p (p + 2) 2 refl (two-bytes s p (omega arith)))
         (both (two _ (p + 2) (p + 4) refl (omega arith) (omega arith))
         (both (two _ (p + 4) (p + 6) refl (omega arith) (omega arith)) (two count (p + 6) (p + 8) e (omega arith) (omega arith))))
 
     block-part : word32 s a ≡ conversionId → word32 s (a + 4) ≡ 0 → 4 ≤ word64 s (a + 16) → word64 s (a + 8) + a ≡ blockEnd s a
-        → Part s a (blockEnd s a) (blockBytes (blockAt s a) refs values)
+        → IsPart s a (blockEnd s a) (blockBytes (blockAt s a) refs values)
     unfolding blockBytes frontBytes blockAt writeSize blockEnd valuesPlace fieldsPlace refCount
     block-part id none enough long =
         let range = range-part (blockAt s a) (isRanged s a) (fieldsPlace s a + 8) (valuesPlace s a) refl refl (omega arith) in
