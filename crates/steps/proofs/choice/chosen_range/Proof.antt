@@ -1,7 +1,9 @@
 -- `steps::choice::chosen_range` meets its contract. Assumes nothing.
-use mathlib.Core.Path.{sym, ap, _∙_}
+use mathlib.Core.Path.{_≡_, sym, ap, _∙_}
 use mathlib.Core.Bool.{true}
 use denote.Ref.{now}
+use Rattle.rules.specs.Values.{values}
+use Rattle.rules.specs.Search.{rangeSearch}
 use Rattle.rules.specs.declared.search.Searched.{Searched}
 use Rattle.steps.specs.Choice.{byReference, chosenRange}
 use borrow.Author.Needs.{needs}
@@ -29,9 +31,12 @@ enum-told c = search needs
 returns : tie.Need-returns
 returns c =
     let s = c .before .before .before .before .before .before .before .before .args in
-    let img = now (s .image) in (
+    let img = now (s .image) in
+    let taken = c .before .before .before .before .x .given .0 in
+    let found : c .before .search-range .result ≡ rangeSearch (taken .1 .0) (values img (s .b .firstval) (s .b .valcount)) (taken .0) =
+    c .before .search-range .ensures in (
       c .follow .ensures .0
-          ∙ ap (λ (q : Searched). byReference img (s .b) q true) (c .before .search-range .ensures)
+          ∙ ap (λ (q : Searched). byReference img (s .b) q true) found
           ∙ ap (chosenRange img (s .b)) (sym (c .before .before .before .before .x .given .1) ∙ c .before .before .before .before .before .before .take .ensures),
       c .follow .ensures .1,
     )
