@@ -134,6 +134,10 @@ fn fields(r: &mut Random) -> Fields {
     let refs: Vec<u64> = (0..r.below(6)).map(|_| r.next() >> r.below(64)).collect();
     let ranged = r.chance(50);
     let (min_word, max_word) = if ranged { (numbers::word(r), numbers::word(r)) } else { (0, 0) };
+    let (range_min, range_max) = (f64::from_bits(min_word), f64::from_bits(max_word));
+    // Beside a bound that is a number any word may stand: here at times the other bound's.
+    let other = refs.len() % 2 == 1;
+    let min_kept = if other && !range_min.is_nan() { max_word } else { min_word };
     let size = 64 + 8 * (refs.len() + words.len()) + 16 * ranged as usize;
     let room = if r.chance(60) { size + r.below(9) } else { r.pick(&[size, size - 1, 0, 24, size / 2]) };
     let link = |r: &mut Random| if r.chance(40) { 0 } else { r.next() >> r.below(64) };
@@ -144,9 +148,9 @@ fn fields(r: &mut Random) -> Fields {
         unit: link(r),
         comment: link(r),
         inverse: link(r),
-        range_min: f64::from_bits(min_word),
-        range_max: f64::from_bits(max_word),
-        min_word,
+        range_min,
+        range_max,
+        min_word: min_kept,
         max_word,
         flags: r.next() as u16,
         ref_count: r.next() as u16,

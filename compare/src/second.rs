@@ -75,7 +75,7 @@ impl Second {
             return Err((4, address));
         }
         if walk.visits >= walk.limit {
-            return Err((3, address));
+            return Err((3, if self.is(Wrong::LimitWithoutAddress) { 0 } else { address }));
         }
         if !(self.is(Wrong::RepeatsCountOnce) && walk.seen.contains(&address)) {
             walk.visits += 1;
@@ -127,7 +127,8 @@ impl Second {
         if known.contains(&link) {
             let full = self.is(Wrong::LoopAfterLimit) && walk.visits >= walk.limit;
             let named = if self.is(Wrong::LoopNamesTheBlock) { holder } else { link };
-            return Err((if full { 3 } else { 6 }, named));
+            let number = if self.is(Wrong::LoopIsDeep) { 5 } else { 6 };
+            return Err((if full { 3 } else { number }, named));
         }
         match block::id_at(walk.image, link) {
             Some(b"##CC") => self.visit(walk, link, depth + 1),

@@ -108,6 +108,8 @@ pub fn record(block: &ConversionBlock) -> Block {
 /// The crate's record of these fields, for its writer.
 pub fn block_of(b: &Block, refs: &[u64], words: &[u64]) -> ConversionBlock {
     let link = |l: u64| (l != 0).then_some(l);
+    // A NaN has the bits that are kept beside it.
+    let bound = |float: f64, kept: u64| if float.is_nan() { f64::from_bits(kept) } else { float };
     ConversionBlock {
         header: BlockHeader { id: "##CC".to_string(), reserved0: 0, block_len: b.length, links_nr: b.links },
         cc_tx_name: link(b.name),
@@ -120,8 +122,8 @@ pub fn block_of(b: &Block, refs: &[u64], words: &[u64]) -> ConversionBlock {
         cc_flags: b.flags,
         cc_ref_count: b.ref_count,
         cc_val_count: b.val_count,
-        cc_phy_range_min: b.ranged.then(|| f64::from_bits(b.min_word)),
-        cc_phy_range_max: b.ranged.then(|| f64::from_bits(b.max_word)),
+        cc_phy_range_min: b.ranged.then(|| bound(b.range_min, b.min_word)),
+        cc_phy_range_max: b.ranged.then(|| bound(b.range_max, b.max_word)),
         cc_val: words.iter().map(|&w| f64::from_bits(w)).collect(),
         formula: None,
         resolved_texts: None,

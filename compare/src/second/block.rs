@@ -152,11 +152,14 @@ impl Second {
         let ref_count = if self.is(Wrong::WrittenReferenceCount) { refs.len() as u16 } else { block.ref_count };
         let val_count = if self.is(Wrong::WrittenValueCount) { block.val_count } else { words.len() as u16 };
         let mut bytes = b"##CC\0\0\0\0".to_vec();
-        let fixed = [length, links, block.name, block.unit, block.comment, block.inverse];
+        let unit = if self.is(Wrong::WrittenUnitIsName) { block.name } else { block.unit };
+        let fixed = [length, links, block.name, unit, block.comment, block.inverse];
         fixed.iter().chain(refs).for_each(|w| bytes.extend(w.to_le_bytes()));
         bytes.extend([block.kind, block.precision]);
         [block.flags, ref_count, val_count].iter().for_each(|h| bytes.extend(h.to_le_bytes()));
         if ranged {
+            let by_word = self.is(Wrong::WrittenBoundByWord);
+            let bound = |float, kept| if by_word { kept } else { bound(float, kept) };
             bytes.extend(bound(block.range_min, block.min_word).to_le_bytes());
             bytes.extend(bound(block.range_max, block.max_word).to_le_bytes());
         }
