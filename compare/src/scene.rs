@@ -13,7 +13,7 @@ use crate::side::{Block, Side, Value};
 pub const ASKS: usize = 8;
 
 /// The last image of each so many is a hostile one.
-const HOSTILE_EVERY: u64 = 1000;
+pub const HOSTILE_EVERY: u64 = 1000;
 
 /// A limit that no grown tree reaches.
 const WIDE_LIMIT: u32 = 20_000;

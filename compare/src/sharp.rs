@@ -3,7 +3,7 @@ use crate::bound::within;
 use crate::judge::{with_crate, with_side, Difference};
 use crate::ours::Ours;
 use crate::reduce;
-use crate::scene::Scene;
+use crate::scene::{Scene, HOSTILE_EVERY};
 use crate::second::{Second, RIGHT};
 use crate::spill::guards_see;
 use crate::tally::Tally;
@@ -26,13 +26,22 @@ fn verdict(wrong: Wrong, judge: Judge, scene: &Scene) -> Option<Difference> {
 pub fn show(number: usize, seed: u64) -> bool {
     let Some(&(wrong, judge, says)) = LIST.get(number.wrapping_sub(1)) else { return false };
     println!("{says}");
-    let found = (0..MOST_SCENES).map(|i| Scene::new(seed, i)).find(|s| verdict(wrong, judge, s).is_some());
+    let found = tried(judge, MOST_SCENES).map(|i| Scene::new(seed, i)).find(|s| verdict(wrong, judge, s).is_some());
     found.map(|scene| reduce::tell_smallest(scene, &|s| verdict(wrong, judge, s))).is_some()
+}
+
+/// The scenes that a judge is asked on. The clock looks at hostile images alone, and how large one must be to give a wrong build away depends on the
+/// machine: it goes through ten times as many scenes for them, and passes over the others.
+fn tried(judge: Judge, scenes: u64) -> Box<dyn Iterator<Item = u64>> {
+    match judge {
+        Judge::Clock => Box::new((HOSTILE_EVERY - 1..10 * scenes).step_by(HOSTILE_EVERY as usize)),
+        _ => Box::new(0..scenes),
+    }
 }
 
 /// How many scenes it takes to catch a wrong build; none if so many do not.
 fn caught_after(wrong: Wrong, judge: Judge, seed: u64, scenes: u64) -> Option<u64> {
-    (0..scenes).find(|&i| verdict(wrong, judge, &Scene::new(seed, i)).is_some())
+    tried(judge, scenes).find(|&i| verdict(wrong, judge, &Scene::new(seed, i)).is_some())
 }
 
 /// Runs all wrong builds; true if each is caught.
