@@ -14,6 +14,8 @@ enum Call {
     Number(u64),
     Text(&'static str),
     Translate(&'static str),
+    Reference(u64),
+    ValueWord(u64),
 }
 
 /// One call, with all that is lent to it.
@@ -48,6 +50,8 @@ pub const ALL: &[Hostile] = &[
     Hostile { name: "text-7", says: "type 7, all references to one very long ##TX", build: text_of_7 },
     Hostile { name: "text-8", says: "type 8, all references to one very long ##TX", build: text_of_8 },
     Hostile { name: "linked-again", says: "the check of 10 blocks that each link 4 and 8 times to the next, limit 4,294,967,295", build: again },
+    Hostile { name: "last-reference", says: "the last reference of a block, by mdf_reference", build: last_reference },
+    Hostile { name: "last-value", says: "the last value of a block, by mdf_value_word", build: last_value },
 ];
 
 /// The image of this name at a size.
@@ -71,6 +75,8 @@ impl Asked {
                 Call::Number(v) => look(unsafe { ours::mdf_apply_unsigned(p, l, at, limit, v, o, ROOM) }),
                 Call::Text(t) => look(unsafe { ours::mdf_apply_text(p, l, at, limit, t.as_ptr(), t.len(), o, ROOM) }),
                 Call::Translate(t) => look(unsafe { ours::mdf_translate(p, l, at, limit, t.as_ptr(), t.len()) }),
+                Call::Reference(i) => look(unsafe { ours::mdf_reference(p, l, at, i) }),
+                Call::ValueWord(i) => look(unsafe { ours::mdf_value_word(p, l, at, i) }),
             }
         }
     }
@@ -185,4 +191,22 @@ fn again(s: usize) -> Asked {
     let mut image = Image::new();
     let address = linked(&mut image, 10, 4 * s);
     Asked { bytes: image.bytes, address, limit: u32::MAX, call: Call::Check }
+}
+
+/// A block with so many references and values, and the last of them: its place is computed, so the size plays no part.
+fn placed(s: usize) -> (Image, u64, u64) {
+    let (mut image, n) = (Image::new(), 30_000 * s);
+    let text = image.text("x");
+    let at = image.words(11, 0, &vec![text; n], &vec![u64::MAX; n]);
+    (image, at, n as u64 - 1)
+}
+
+fn last_reference(s: usize) -> Asked {
+    let (image, at, last) = placed(s);
+    asked(image, at, Call::Reference(last))
+}
+
+fn last_value(s: usize) -> Asked {
+    let (image, at, last) = placed(s);
+    asked(image, at, Call::ValueWord(last))
 }

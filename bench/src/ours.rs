@@ -26,7 +26,17 @@ pub struct Shown {
     pub length: u64,
 }
 
+#[repr(C)]
+pub struct Word {
+    pub refusal: u32,
+    pub found: u32,
+    pub address: u64,
+    pub word: u64,
+}
+
 extern "C" {
+    pub fn mdf_reference(image: *const u8, image_len: usize, address: u64, index: u64) -> Word;
+    pub fn mdf_value_word(image: *const u8, image_len: usize, address: u64, index: u64) -> Word;
     pub fn mdf_check(image: *const u8, image_len: usize, address: u64, limit: u32) -> Checked;
     pub fn mdf_apply_unsigned(image: *const u8, image_len: usize, address: u64, limit: u32, value: u64, out: *mut u8, out_len: usize) -> Applied;
     pub fn mdf_apply_float(image: *const u8, image_len: usize, address: u64, limit: u32, value: f64, out: *mut u8, out_len: usize) -> Applied;
