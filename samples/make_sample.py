@@ -1,15 +1,14 @@
 #!/usr/bin/env python3
 """Makes the sample image: the conversions of a tractor's gateway, and values to convert by them.
 
-It writes crates/show_blocks/stdin, which the program show_blocks lists, and crates/show_values/stdin, whose values the program show_values
-converts. The image of show_values alone is samples/tractor.mdf, which the examples of the C header, the Rust crate and the command convert by;
-samples/README.md says which conversion stands at which address in it. It is written from document 01 and the MDF standard alone, with nothing but
+It writes crates/show_values/stdin, whose values the program show_values converts. The image alone is samples/tractor.mdf, which the examples of
+the C header, the Rust crate and the command convert by; samples/README.md says which conversion stands at which address in it. It is written from document 01 and the MDF standard alone, with nothing but
 Python's own library, and uses none of the project's own code, so that the image says nothing about it.
 
-The image is 64 bytes of identification, then ##TX, ##MD and ##CC blocks one behind the other, each at a multiple of 8. For show_values some
-blocks more stand behind those of show_blocks, and requests before the image, numbers little-endian: how many in 8 bytes, then 64 bytes for each.
-A request has eight bytes each for the conversion's address, the kind of the value (its place in KINDS), the value's 64 bits or the length of a
-text, the visit limit, and the room for a text answer; then the text, filled up with zeros to 24 bytes.
+The image is 64 bytes of identification, then ##TX, ##MD and ##CC blocks one behind the other, each at a multiple of 8. For show_values
+requests stand before the image, numbers little-endian: how many in 8 bytes, then 64 bytes for each. A request has eight bytes each for the
+conversion's address, the kind of the value (its place in KINDS), the value's 64 bits or the length of a text, the visit limit, and the room for a
+text answer; then the text, filled up with zeros to 24 bytes.
 """
 import os
 import struct
@@ -102,9 +101,6 @@ conversion("vendor", 42, name="Vendor scale", comment="<CCcomment/>", refs=("", 
            values=(0.1, -2.5, 1 / 3, -0.0, 1e-9, 0.99999999, 123456.789, 2.0 ** 53 - 1, -(2.0 ** 53), float("inf"), float("-inf"), float("nan")))
 # A link count that no image holds: this one is refused.
 conversion("damaged", 1, values=(0.0, 1.0), links=2 ** 60)
-
-# Up to here the image of show_blocks.
-listed = len(blocks)
 
 for text in ("Coolant", "Beacon colour", "amber", "blue", "Maker scale", "Seat switch"):
     plain(b"##TX", text)
@@ -220,7 +216,7 @@ def readme(size):
     lines = ["# The sample image",
              "",
              "`tractor.mdf` is an image of %d bytes with the conversions of a tractor's gateway, at least one of each type." % size,
-             "`make_sample.py` makes it, this page, and the input of the programs `show_blocks` and `show_values`.",
+             "`make_sample.py` makes it, this page, and the input of the program `show_values`.",
              "",
              "| address | name | type | unit | remark |",
              "|---|---|---|---|---|"]
@@ -232,7 +228,6 @@ image = image_of(blocks)
 asked = struct.pack("<Q", len(requests))
 for where, body in requests:
     asked += struct.pack("<Q", places.get(where, where)) + body
-write_input("show_blocks", image_of(blocks[:listed]))
 write_input("show_values", asked + image)
 write("samples/tractor.mdf", image)
 write("samples/README.md", readme(len(image)))

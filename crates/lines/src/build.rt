@@ -1,6 +1,5 @@
-// Numbers of a command put into the memory: bytes, words of 8 bytes, lowest byte first, or floats. What does not fit is left out.
-use crate::read::Found;
-use crate::read::float;
+// Numbers and bytes put into memory. What does not fit is left out.
+use crate::parts::byte;
 use crate::read::number;
 
 // The place behind the last number that was put, and the place in the command behind the last one that was read.
@@ -9,48 +8,57 @@ pub struct Listed {
     pub next: usize,
 }
 
-// A word or a byte where it fits, and the place behind it.
-pub fn put(mem: &mut [u8], at: usize, v: u64, is_word: bool) -> usize {
-    if is_word {
-        if 8 <= mem.len() {
-            if at <= mem.len() - 8 {
-                words::put_u64(mem, at, v);
-                return at + 8;
-            }
+// A word of 8 bytes, lowest byte first, where it fits, and the place behind it.
+pub fn put(mem: &mut [u8], at: usize, v: u64) -> usize {
+    if at < mem.len() {
+        if 8 <= mem.len() - at {
+            words::put_u64(mem, at, v);
+            return at + 8;
         }
-    } else if at < mem.len() {
+    }
+    at
+}
+
+// The same of a byte.
+fn put_byte(mem: &mut [u8], at: usize, v: u64) -> usize {
+    if at < mem.len() {
         mem[at] = (v % 256) as u8;
         return at + 1;
     }
     at
 }
 
-// The number behind the space at `at`, by the letter of the command.
-fn numbered(line: &[u8], at: usize, letter: u8) -> Found {
-    if letter == b'd' {
-        return float(line, at);
+fn put_as(form: u8, mem: &mut [u8], at: usize, v: u64) -> usize {
+    match form {
+        b'b' => put_byte(mem, at, v),
+        _ => put(mem, at, v),
     }
-    number(line, at)
 }
 
-// Puts the numbers that stand in the command from the space at `from` on, as the letter says: b for bytes, w for words, d for floats.
-pub fn list(line: &[u8], from: usize, letter: u8, at: usize, mem: &mut [u8]) -> Listed {
+// Puts the numbers that stand in the command from the space at `from` on, in their form: b for bytes, all others for words.
+pub fn list(line: &[u8], from: usize, form: u8, at: usize, mem: &mut [u8]) -> Listed {
     let mut i = from;
     let mut p = at;
     while i < line.len() {
-        let n = numbered(line, i, letter);
+        let n = number(line, i, form);
         if n.next <= i {
             break;
         }
-        p = put(mem, p, n.value, letter != b'b');
+        p = put_as(form, mem, p, n.value);
         i = n.next;
     }
     Listed { at: p, next: i }
 }
 
-// Puts the numbers behind the first from the place that the first says on. Answers whether all were understood.
-pub fn build(line: &[u8], letter: u8, mem: &mut [u8]) -> bool {
-    let first = number(line, 1);
-    let l = list(line, first.next, letter, first.value as usize, mem);
-    l.next == line.len()
+pub fn fill(mem: &mut [u8], v: u8) {
+    for k in 0..mem.len() {
+        mem[k] = v;
+    }
+}
+
+// Puts the bytes, and zeros behind them.
+pub fn copy(mem: &mut [u8], bytes: &[u8]) {
+    for k in 0..mem.len() {
+        mem[k] = byte(bytes, k);
+    }
 }

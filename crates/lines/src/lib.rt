@@ -1,9 +1,8 @@
-// Tables of cases for programs that obey them: the reader of commands, of their numbers and texts, and what builds an image from them.
-//
-// A table is text that is written as it is, and commands. A command is a letter and what belongs to it, each behind one space.
+// What the programs read and write alike: parts of slices, the numbers and texts of commands, memory built from them, what a call is asked, and
+// phrases.
 pub mod build;
-pub mod line;
 pub mod parts;
+pub mod phrase;
 pub mod read;
-pub mod table;
+pub mod request;
 pub mod value;

@@ -1,4 +1,5 @@
-// Parts of slices, and bytes found and compared in them. Where the slice does not have the part, all of it is taken.
+// Parts of slices, and bytes and words found in them. Where a slice does not have the part, all of it is taken; a byte or a word that it
+// does not have is 0.
 ghost use Prim.Native.Nat.{_≤_};
 ghost use lib.ListN.{length};
 
@@ -20,11 +21,14 @@ pub fn room(s: &mut [u8], from: usize, to: usize) -> &mut [u8] {
     s
 }
 
-// The word at a place, or 0 where there is none.
-pub fn word(s: &[u8], at: u64) -> u64 {
-    if 8 <= s.len() {
-        if at <= (s.len() - 8) as u64 {
-            return words::u64_at(s, at as usize);
+pub fn byte(s: &[u8], at: usize) -> u8 {
+    if at < s.len() { s[at] } else { 0 }
+}
+
+pub fn word(s: &[u8], at: usize) -> u64 {
+    if at < s.len() {
+        if 8 <= s.len() - at {
+            return words::u64_at(s, at);
         }
     }
     0
@@ -43,16 +47,4 @@ pub fn find(s: &[u8], from: usize, byte: u8) -> usize
         i += 1;
     }
     i
-}
-
-pub fn is_same(a: &[u8], b: &[u8]) -> bool {
-    if a.len() != b.len() {
-        return false;
-    }
-    for k in 0..a.len() {
-        if a[k] != b[k] {
-            return false;
-        }
-    }
-    true
 }

@@ -6,89 +6,63 @@
 // text and the image. A line is the answer as a value, since the crate cannot tell a value that stays as it is from an equal answer: `unsigned`,
 // `signed` and `float` with 64 bits in hexadecimal, `text` with its bytes in hexadecimal, `other`, `unknown`, or `refused` with the number; then
 // N.
-mod head;
 mod say;
 
 use conversion::logic::apply;
-use head::Head;
+use lines::parts::part;
+use lines::parts::room;
+use lines::parts::word;
+use lines::request::Request;
+use std::num::wrapping_add_usize;
 
-fn bad(why: &[u8]) {
-    io::write_all(1, b"bad input: ");
-    io::write_all(1, why);
+// The bytes of the numbers before a record's text and image.
+const HEAD: usize = 56;
+
+// Where the text of the record ends and its image begins.
+fn text_end(record: &[u8]) -> usize {
+    wrapping_add_usize(HEAD, word(record, 40) as usize)
 }
 
-// The answer of a record whose text and image have been read.
-fn answer(head: Head, text: &[u8], image: &[u8], out: &mut [u8]) {
-    let room = head.room;
-    if room <= out.len() {
-        let value = head.value;
-        let lent = &mut out[0..room];
-        let a = apply(image, head.address, head.limit, value, text, lent);
-        let answer = a.answer;
-        say::line(answer, value, text, lent, a.checked);
-    }
+fn image_end(record: &[u8]) -> usize {
+    wrapping_add_usize(text_end(record), word(record, 48) as usize)
 }
 
-// The text and the image of a record are read, and its answer is written. Answers whether they were there.
-fn body(head: Head, buf: &mut [u8], out: &mut [u8]) -> bool {
-    let text = head.text;
-    let image = head.image;
-    if buf.len() < text {
-        return false;
-    }
-    if buf.len() - text < image {
-        return false;
-    }
-    let all = text + image;
-    let n = io::read_full(0, &mut buf[0..all]);
-    if n < all {
-        return false;
-    }
-    answer(head, &buf[0..text], &buf[text..all], out);
-    true
+// A record is read to the start of the buffer. Answers whether it was there, whole.
+fn read(buf: &mut [u8]) -> bool {
+    let n = io::read_full(0, room(buf, 0, HEAD));
+    let end = image_end(buf);
+    let rest = io::read_full(0, room(buf, HEAD, end));
+    wrapping_add_usize(n, rest) == end
 }
 
-// One record. Answers whether it was there, whole.
-fn record(buf: &mut [u8], out: &mut [u8]) -> bool {
-    if buf.len() < 56 {
-        return false;
-    }
-    let n = io::read_full(0, &mut buf[0..56]);
-    if n < 56 {
-        return false;
-    }
-    if head::fits(buf) {
-        body(Head::read(buf), buf, out)
-    } else {
-        false
-    }
+// The answer of a record. The room that it asks for is the front of `out`.
+fn answer(record: &[u8], out: &mut [u8]) {
+    let r = Request::read(record);
+    let mid = text_end(record);
+    let text = part(record, HEAD, mid);
+    let image = part(record, mid, image_end(record));
+    let lent = room(out, 0, r.room);
+    let v = r.value;
+    let a = apply(image, r.address, r.limit, v, text, lent);
+    say::line(a, v, text, lent);
 }
 
 fn records(count: u64, buf: &mut [u8], out: &mut [u8]) {
     let mut left = count;
     while 0 < left {
-        if !record(buf, out) {
-            bad(b"a record is cut off or too large\n");
+        if !read(buf) {
+            say::cut_off();
             return;
         }
+        answer(buf, out);
         left -= 1;
     }
-}
-
-fn all(buf: &mut [u8], out: &mut [u8]) {
-    if buf.len() < 8 {
-        return;
-    }
-    let n = io::read_full(0, &mut buf[0..8]);
-    if n < 8 {
-        bad(b"no number of records\n");
-        return;
-    }
-    records(words::u64_at(buf, 0), buf, out);
 }
 
 fn main() {
     let mut buf = io::large_buffer();
     let mut out = io::buffer();
-    all(&mut buf, &mut out);
+    io::read_full(0, room(&mut buf, 0, 8));
+    let count = word(&buf, 0);
+    records(count, &mut buf, &mut out);
 }

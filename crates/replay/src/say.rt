@@ -1,9 +1,27 @@
 // A line: the answer as a value, and N.
 use conversion::logic::Answer;
+use conversion::logic::Applied;
+use lines::parts::part;
 use rules::number::Value;
 
-fn bits(label: &[u8], n: u64) {
-    io::write_all(1, label);
+fn say(k: usize) {
+    let s: &[u8] = b"00|unsigned |.......\
+        01|signed |.........\
+        02|float |..........\
+        03|text |...........\
+        04|other|...........\
+        05|unknown|.........\
+        06|refused |........\
+        07|record cut off\n|.";
+    lines::phrase::say(s, k);
+}
+
+pub fn cut_off() {
+    say(7);
+}
+
+fn bits(k: usize, n: u64) {
+    say(k);
     io::print_hex(1, n, 16);
 }
 
@@ -12,7 +30,7 @@ fn byte(b: u8) {
 }
 
 fn bytes(text: &[u8]) {
-    io::write_all(1, b"text ");
+    say(3);
     for i in 0..text.len() {
         byte(text[i]);
     }
@@ -21,36 +39,33 @@ fn bytes(text: &[u8]) {
 // The value itself, where it stays as it is.
 fn value(v: Value, text: &[u8]) {
     match v {
-        Value::Unsigned(n) => bits(b"unsigned ", n),
-        Value::Signed(n) => bits(b"signed ", floats::bits_of_i64(n)),
-        Value::Float(x) => bits(b"float ", floats::to_bits(x)),
+        Value::Unsigned(n) => bits(0, n),
+        Value::Signed(n) => bits(1, floats::bits_of_i64(n)),
+        Value::Float(x) => bits(2, floats::to_bits(x)),
         Value::Text => bytes(text),
-        Value::Other => {
-            io::write_all(1, b"other");
-        }
+        Value::Other => say(4),
     }
 }
 
-fn part(out: &[u8], n: usize) {
-    if n <= out.len() {
-        bytes(&out[0..n]);
-    }
-}
-
-pub fn line(a: Answer, v: Value, text: &[u8], out: &[u8], n: u32) {
-    match a {
-        Answer::Number(x) => bits(b"float ", floats::to_bits(x)),
-        Answer::Text(length) => part(out, length),
-        Answer::Unchanged => value(v, text),
-        Answer::Unknown => {
-            io::write_all(1, b"unknown");
-        }
-        Answer::Refused(r) => {
-            io::write_all(1, b"refused ");
-            io::print_decimal(1, r.number() as u64);
-        }
-    }
-    io::write_all(1, b" ");
+fn refused(n: u8) {
+    say(6);
     io::print_decimal(1, n as u64);
+}
+
+fn answer(a: Answer, v: Value, text: &[u8], out: &[u8]) {
+    match a {
+        Answer::Number(x) => bits(2, floats::to_bits(x)),
+        Answer::Text(n) => bytes(part(out, 0, n)),
+        Answer::Unchanged => value(v, text),
+        Answer::Unknown => say(5),
+        Answer::Refused(r) => refused(r.number()),
+    }
+}
+
+pub fn line(a: Applied, v: Value, text: &[u8], out: &[u8]) {
+    let said = a.answer;
+    answer(said, v, text, out);
+    io::write_all(1, b" ");
+    io::print_decimal(1, a.checked as u64);
     io::write_all(1, b"\n");
 }

@@ -1,22 +1,25 @@
 // The line of a request: the conversion's name, the value, its answer, and the two counts.
-use crate::request::ROOM;
-use crate::request::Request;
+use crate::decimal;
+use crate::say;
+use crate::say::labelled;
+use crate::say::quoted;
+use crate::say::say;
 use blocks::Block;
 use blocks::Parsed;
 use common::text::Text;
 use common::text::text_of;
 use conversion::logic::Answer;
-use conversion::logic::Applied;
 use conversion::logic::apply;
-use print::decimal;
-use print::refusal::placed;
-use print::text::labelled;
-use print::text::part;
-use print::text::quoted;
+use lines::parts::part;
+use lines::parts::room;
+use lines::parts::word;
+use lines::request::Request;
 use rules::number::Value;
 
-// The usual visit limit. A line names the limit and the room only where they are not the usual ones: this limit, and the most room.
+// A line names the visit limit and the room only where they are not the usual ones: this limit, and the most room.
 const LIMIT: u32 = 4096;
+
+const ROOM: usize = 4096;
 
 // The links to a conversion's name and unit.
 struct Links {
@@ -37,55 +40,57 @@ fn links_of(image: &[u8], address: u64) -> Links {
 
 fn title(image: &[u8], name: u64, address: u64) {
     match text_of(image, name) {
-        Text::Part(from, to) => part(image, from, to),
-        Text::NoText => labelled(b"Address ", address),
+        Text::Part(from, to) => {
+            io::write_all(1, part(image, from, to));
+        }
+        Text::NoText => labelled(say::ADDRESS, address),
     }
-    io::write_all(1, b": ");
+    say(say::COLON);
 }
 
 fn signed(n: i64) {
     let bits = floats::bits_of_i64(n);
+    say(say::SIGNED);
     if bits < 0x8000_0000_0000_0000 {
-        labelled(b"signed ", bits);
+        io::print_decimal(1, bits);
     } else {
-        labelled(b"signed -", 18446744073709551615 - bits + 1);
+        labelled(say::MINUS, 18446744073709551615 - bits + 1);
     }
 }
 
 fn value(v: Value, text: &[u8]) {
     match v {
-        Value::Unsigned(n) => labelled(b"unsigned ", n),
+        Value::Unsigned(n) => labelled(say::UNSIGNED, n),
         Value::Signed(n) => signed(n),
         Value::Float(x) => {
-            io::write_all(1, b"float ");
+            say(say::FLOAT);
             decimal::print(x);
         }
-        Value::Text => {
-            io::write_all(1, b"text ");
-            quoted(text, 0, text.len());
-        }
+        Value::Text => quoted(say::TEXT, text),
         Value::Other => {
-            io::write_all(1, b"a value of kind other");
+            say(say::VALUE);
+            say(say::OTHER);
         }
     }
 }
 
-fn limits(limit: u32, room: usize) {
-    if limit != LIMIT {
-        labelled(b" (limit ", limit as u64);
-        io::write_all(1, b")");
+fn limits(r: Request) {
+    if r.limit != LIMIT {
+        labelled(say::LIMIT, r.limit as u64);
+        say(say::CLOSE);
     }
-    if (room as u64) != ROOM {
-        labelled(b" (room ", room as u64);
-        io::write_all(1, b")");
+    if r.room != ROOM {
+        labelled(say::ROOM, r.room as u64);
+        say(say::CLOSE);
     }
 }
 
-fn unit(image: &[u8], label: &[u8], link: u64) {
+// The unit behind a phrase, if the link leads to one.
+fn unit(image: &[u8], k: usize, link: u64) {
     match text_of(image, link) {
         Text::Part(from, to) => {
-            io::write_all(1, label);
-            part(image, from, to);
+            say(k);
+            io::write_all(1, part(image, from, to));
         }
         Text::NoText => {}
     }
@@ -93,11 +98,11 @@ fn unit(image: &[u8], label: &[u8], link: u64) {
 
 // A value that stays as it is has the unit if it is a number.
 fn unchanged(image: &[u8], v: Value, link: u64) {
-    io::write_all(1, b" stays as it is");
+    say(say::STAYS);
     match v {
         Value::Text => {}
         Value::Other => {}
-        _ => unit(image, b", in ", link),
+        _ => unit(image, say::IN, link),
     }
 }
 
@@ -105,52 +110,47 @@ fn unchanged(image: &[u8], v: Value, link: u64) {
 fn answer(image: &[u8], a: Answer, v: Value, link: u64, out: &[u8]) {
     match a {
         Answer::Number(x) => {
-            io::write_all(1, b" gives ");
+            say(say::GIVES);
             decimal::print(x);
-            unit(image, b" ", link);
+            unit(image, say::SPACE, link);
         }
-        Answer::Text(n) => {
-            io::write_all(1, b" gives ");
-            quoted(out, 0, n);
-        }
+        Answer::Text(n) => quoted(say::GIVES_TEXT, part(out, 0, n)),
         Answer::Unchanged => unchanged(image, v, link),
-        Answer::Unknown => {
-            io::write_all(1, b" is not known");
-        }
-        Answer::Refused(r) => placed(b" is refused, ", r),
+        Answer::Unknown => say(say::NOT_KNOWN),
+        Answer::Refused(r) => say::refusal(say::REFUSED, r),
     }
 }
 
 fn counts(checked: u32, applied: u32) {
-    labelled(b"  (checked ", checked as u64);
-    labelled(b", applied ", applied as u64);
-    io::write_all(1, b")\n");
+    labelled(say::CHECKED, checked as u64);
+    labelled(say::APPLIED, applied as u64);
+    say(say::END);
 }
 
-// The line of a request once its answer is there.
-fn answered(image: &[u8], r: Request, text: &[u8], x: Applied, out: &[u8]) {
-    let links = links_of(image, r.address);
-    let v = r.value;
-    let a = x.answer;
-    title(image, links.name, r.address);
-    value(v, text);
-    limits(r.limit, r.room);
-    answer(image, a, v, links.unit, out);
-    counts(x.checked, x.applied);
-}
-
-// The room that the request asks for is the front of `space`.
-fn write_in(image: &[u8], r: Request, text: &[u8], space: &mut [u8]) {
-    let room = r.room;
-    if room <= space.len() {
-        let v = r.value;
-        let x = apply(image, r.address, r.limit, v, text, &mut space[0..room]);
-        answered(image, r, text, x, space);
+// The text of a value that is one; its length stands for the value.
+fn text_in(request: &[u8]) -> &[u8] {
+    let length = word(request, 16) as usize;
+    match word(request, 8) {
+        3 => part(request, 40, std::num::wrapping_add_usize(40, length)),
+        _ => part(request, 40, 40),
     }
 }
 
-// The line of a request whose text is given, if its value is one.
-pub fn write(image: &[u8], r: Request, text: &[u8]) {
-    let mut space = io::buffer();
-    write_in(image, r, text, &mut space);
+// The value is converted with the room that the request asks for, and the line is written.
+fn convert(image: &[u8], r: Request, text: &[u8], lent: &mut [u8]) {
+    let v = r.value;
+    let links = links_of(image, r.address);
+    title(image, links.name, r.address);
+    value(v, text);
+    limits(r);
+    let x = apply(image, r.address, r.limit, v, text, lent);
+    let a = x.answer;
+    answer(image, a, v, links.unit, lent);
+    counts(x.checked, x.applied);
+}
+
+pub fn write(image: &[u8], request: &[u8]) {
+    let r = Request::read(request);
+    let mut out = io::buffer();
+    convert(image, r, text_in(request), room(&mut out, 0, r.room));
 }

@@ -1,27 +1,24 @@
--- `replay::records` is safe and ends: the buffers keep their lengths, and the count of records left falls. Assumes nothing.
+-- `records` is safe and ends: the buffers keep their lengths, and the count of records left falls.
+use borrow.Author.Needs.{needs}
 use mathlib.Core.Path.{_≡_}
 use lib.ListN.{length}
-use borrow.Author.Needs.{needs}
 use Rattle.replay.proofs.records.Statement.{statement}
 use Rattle.replay.proofs.records.Tie as tie
 
 abbrev Inv-loop : tie.InvT-loop
-Inv-loop count buf₀ out₀ left₀ t5 buf out left = (length buf ≡ length buf₀) × (length out ≡ length out₀)
+Inv-loop count buf₀ out₀ left₀ buf out left = (length buf ≡ length buf₀) × (length out ≡ length out₀)
 
 abbrev μ-loop : tie.MeasureT-loop
-μ-loop count buf₀ out₀ left₀ t5 buf out left = left
+μ-loop count buf₀ out₀ left₀ buf out left = left
 
 loop-holds : tie.Need-loop-holds Inv-loop μ-loop
 loop-holds c = search needs
 
-record-requires : tie.Need-record-requires Inv-loop μ-loop
-record-requires c κs = search needs
+read-requires : tie.Need-read-requires Inv-loop μ-loop
+read-requires c κs = search needs
 
-slice-aggregate-bad : tie.Need-slice-aggregate-bad Inv-loop μ-loop
-slice-aggregate-bad c = search needs
-
-bad-requires : tie.Need-bad-requires Inv-loop μ-loop
-bad-requires c κs = search needs
+cut-off-requires : tie.Need-cut-off-requires Inv-loop μ-loop
+cut-off-requires c κs = search needs
 
 same-length : tie.Need-same-length Inv-loop μ-loop
 same-length c = search needs
@@ -31,6 +28,9 @@ same-length-2 c = search needs
 
 returns : tie.Need-returns Inv-loop μ-loop
 returns c = search needs
+
+answer-requires : tie.Need-answer-requires Inv-loop μ-loop
+answer-requires c κs = search needs
 
 sub-left : tie.Need-sub-left Inv-loop μ-loop
 sub-left c = search needs
@@ -57,12 +57,12 @@ records-spec =
     Inv-loop
     μ-loop
     loop-holds
-    record-requires
-    slice-aggregate-bad
-    bad-requires
+    read-requires
+    cut-off-requires
     same-length
     same-length-2
     returns
+    answer-requires
     sub-left
     loop-less
     loop-again

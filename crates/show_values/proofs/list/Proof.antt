@@ -1,30 +1,44 @@
--- `list` is safe and ends: each request lies in the input, and the count of those left falls.
-use Prim.Native.Nat.{_+_, _*_, _-_, _≤_}
-use lib.ListN.{length}
+-- `list` is safe and ends: the places of the requests are small, and the count of those left falls.
 use borrow.Author.Needs.{needs}
+use Prim.Native.Nat.{_-_, _≤_}
 use Rattle.show_values.proofs.list.Statement.{statement}
 use Rattle.show_values.proofs.list.Tie as tie
 
 abbrev Inv-loop : tie.InvT-loop
-Inv-loop input count image i₀ i = 8 + 64 * count ≤ length input
+Inv-loop input count image i₀ i = count ≤ 1023
 
 abbrev μ-loop : tie.MeasureT-loop
 μ-loop input count image i₀ i = count - i
 
+mul-part : tie.Need-mul-part Inv-loop μ-loop
+mul-part c = search needs
+
+add-part : tie.Need-add-part Inv-loop μ-loop
+add-part c = search needs
+
+part-requires : tie.Need-part-requires Inv-loop μ-loop
+part-requires c κs = search needs
+
 loop-holds : tie.Need-loop-holds Inv-loop μ-loop
 loop-holds c = search needs
 
-mul-show : tie.Need-mul-show Inv-loop μ-loop
-mul-show c = search needs
+mul-part-2 : tie.Need-mul-part-2 Inv-loop μ-loop
+mul-part-2 c = search needs
 
-add-show : tie.Need-add-show Inv-loop μ-loop
-add-show c = search needs
+add-part-2 : tie.Need-add-part-2 Inv-loop μ-loop
+add-part-2 c = search needs
 
-show-requires : tie.Need-show-requires Inv-loop μ-loop
-show-requires c κs = search needs
+mul-part-3 : tie.Need-mul-part-3 Inv-loop μ-loop
+mul-part-3 c = search needs
 
-returns : tie.Need-returns Inv-loop μ-loop
-returns c = search needs
+add-part-3 : tie.Need-add-part-3 Inv-loop μ-loop
+add-part-3 c = search needs
+
+part-requires-2 : tie.Need-part-requires-2 Inv-loop μ-loop
+part-requires-2 c κs = search needs
+
+write-requires : tie.Need-write-requires Inv-loop μ-loop
+write-requires c κs = search needs
 
 add-i : tie.Need-add-i Inv-loop μ-loop
 add-i c = search needs
@@ -35,8 +49,8 @@ loop-less c = search needs
 loop-again : tie.Need-loop-again Inv-loop μ-loop
 loop-again c = search needs
 
-returns-2 : tie.Need-returns-2 Inv-loop μ-loop
-returns-2 c = search needs
+returns : tie.Need-returns Inv-loop μ-loop
+returns c = search needs
 
 pub list-spec : {M : Type 1} → statement M
 list-spec =
@@ -44,12 +58,17 @@ list-spec =
     (tie.spec
     Inv-loop
     μ-loop
+    mul-part
+    add-part
+    part-requires
     loop-holds
-    mul-show
-    add-show
-    show-requires
-    returns
+    mul-part-2
+    add-part-2
+    mul-part-3
+    add-part-3
+    part-requires-2
+    write-requires
     add-i
     loop-less
     loop-again
-    returns-2)
+    returns)

@@ -7,19 +7,19 @@ use Rattle.lines.proofs.build.list.Statement.{statement}
 use Rattle.lines.proofs.build.list.Tie as tie
 
 abbrev Inv-loop : tie.InvT-loop
-Inv-loop line from letter at mem₀ i₀ p₀ mem i p = length mem ≡ length mem₀
+Inv-loop line from form at mem₀ i₀ p₀ mem i p = length mem ≡ length mem₀
 
 abbrev μ-loop : tie.MeasureT-loop
-μ-loop line from letter at mem₀ i₀ p₀ mem i p = length line - i
+μ-loop line from form at mem₀ i₀ p₀ mem i p = length line - i
 
 loop-holds : tie.Need-loop-holds Inv-loop μ-loop
 loop-holds c = search needs
 
-numbered-requires : tie.Need-numbered-requires Inv-loop μ-loop
-numbered-requires c κs = search needs
+number-requires : tie.Need-number-requires Inv-loop μ-loop
+number-requires c κs = search needs
 
-put-requires : tie.Need-put-requires Inv-loop μ-loop
-put-requires c κs = search needs
+put-as-requires : tie.Need-put-as-requires Inv-loop μ-loop
+put-as-requires c κs = search needs
 
 loop-less : tie.Need-loop-less Inv-loop μ-loop
 loop-less c = search needs
@@ -46,8 +46,8 @@ list-spec =
     Inv-loop
     μ-loop
     loop-holds
-    numbered-requires
-    put-requires
+    number-requires
+    put-as-requires
     loop-less
     loop-again
     same-length

@@ -1,7 +1,7 @@
--- `replay::say::bytes` is safe and ends: each byte lies in the text, and the count of those left falls. Assumes nothing.
+-- `bytes` is safe and ends: each byte lies in the text, and the count of those left falls.
+use borrow.Author.Needs.{needs}
 use Prim.Native.Nat.{_-_, _≤_}
 use lib.ListN.{length}
-use borrow.Author.Needs.{needs}
 use Rattle.replay.proofs.say.bytes.Statement.{statement}
 use Rattle.replay.proofs.say.bytes.Tie as tie
 
@@ -11,11 +11,8 @@ Inv-loop text i₀ i-end i = i-end ≤ length text
 abbrev μ-loop : tie.MeasureT-loop
 μ-loop text i₀ i-end i = i-end - i
 
-slice-aggregate-write-all : tie.Need-slice-aggregate-write-all Inv-loop μ-loop
-slice-aggregate-write-all c = search needs
-
-write-all-requires : tie.Need-write-all-requires Inv-loop μ-loop
-write-all-requires c κs = search needs
+say-requires : tie.Need-say-requires Inv-loop μ-loop
+say-requires c κs = search needs
 
 loop-holds : tie.Need-loop-holds Inv-loop μ-loop
 loop-holds c = search needs
@@ -44,8 +41,7 @@ bytes-spec =
     (tie.spec
     Inv-loop
     μ-loop
-    slice-aggregate-write-all
-    write-all-requires
+    say-requires
     loop-holds
     shared-slice-read-byte
     byte-requires

@@ -1,0 +1,51 @@
+-- `is_same` is safe and ends: what is left of the first slice falls.
+use borrow.Author.Needs.{needs}
+use Prim.Native.Nat.{_-_, _≤_}
+use lib.ListN.{length}
+use Rattle.cases.proofs.block.is_same.Statement.{statement}
+use Rattle.cases.proofs.block.is_same.Tie as tie
+
+abbrev Inv-loop : tie.InvT-loop
+Inv-loop a b k₀ k-end k = k-end ≤ length a
+
+abbrev μ-loop : tie.MeasureT-loop
+μ-loop a b k₀ k-end k = k-end - k
+
+loop-holds : tie.Need-loop-holds Inv-loop μ-loop
+loop-holds c = search needs
+
+shared-slice-read-if1 : tie.Need-shared-slice-read-if1 Inv-loop μ-loop
+shared-slice-read-if1 c = search needs
+
+byte-requires : tie.Need-byte-requires Inv-loop μ-loop
+byte-requires c κs = search needs
+
+returns : tie.Need-returns Inv-loop μ-loop
+returns c = search needs
+
+add-k : tie.Need-add-k Inv-loop μ-loop
+add-k c = search needs
+
+loop-less : tie.Need-loop-less Inv-loop μ-loop
+loop-less c = search needs
+
+loop-again : tie.Need-loop-again Inv-loop μ-loop
+loop-again c = search needs
+
+returns-2 : tie.Need-returns-2 Inv-loop μ-loop
+returns-2 c = search needs
+
+pub is-same-spec : {M : Type 1} → statement M
+is-same-spec =
+    tie.close
+    (tie.spec
+    Inv-loop
+    μ-loop
+    loop-holds
+    shared-slice-read-if1
+    byte-requires
+    returns
+    add-k
+    loop-less
+    loop-again
+    returns-2)

@@ -1,0 +1,49 @@
+// The check of a conversion tree, and values converted: applied, and shown by the entry for type 10.
+use crate::build::ADDRESS;
+use crate::build::LIMIT;
+use crate::build::ROOM;
+use crate::build::SIZE;
+use crate::say;
+use lines::build::fill;
+use lines::parts::part;
+use lines::parts::room;
+use lines::parts::word;
+use rules::number::Value;
+
+fn image_of(mem: &[u8]) -> &[u8] {
+    part(mem, 0, word(mem, SIZE) as usize)
+}
+
+pub fn check(mem: &[u8], address: u64, limit: u64) {
+    let c = tree::check(image_of(mem), address, (limit % 4294967296) as u32);
+    say::checked(c);
+}
+
+fn limit_of(mem: &[u8]) -> u32 {
+    (word(mem, LIMIT) % 4294967296) as u32
+}
+
+// Each byte of the output is another one than a call is likely to put there.
+fn answer(mem: &[u8], v: Value, text: &[u8], lent: &mut [u8]) {
+    fill(lent, say::BEFORE);
+    let a = conversion::logic::apply(
+        image_of(mem),
+        word(mem, ADDRESS),
+        limit_of(mem),
+        v,
+        text,
+        lent,
+    );
+    say::applied(a, lent);
+}
+
+pub fn apply(mem: &[u8], v: Value, text: &[u8]) {
+    let mut out = io::buffer();
+    answer(mem, v, text, room(&mut out, 0, word(mem, ROOM) as usize));
+}
+
+pub fn translate<'a>(mem: &'a [u8], question: &'a [u8]) {
+    let address = word(mem, ADDRESS);
+    let shown = conversion::shown::translate(image_of(mem), address, limit_of(mem), question);
+    say::shown(shown, question);
+}

@@ -1,0 +1,52 @@
+-- `copy` is safe and ends: the memory keeps its length, and what is left of it falls.
+use borrow.Author.Needs.{needs}
+use mathlib.Core.Path.{_≡_}
+use Prim.Native.Nat.{_-_}
+use lib.ListN.{length}
+use Rattle.lines.proofs.build.copy.Statement.{statement}
+use Rattle.lines.proofs.build.copy.Tie as tie
+
+abbrev Inv-loop : tie.InvT-loop
+Inv-loop mem₀ bytes k₀ k-end mem k = (length mem ≡ length mem₀) × (k-end ≡ length mem₀)
+
+abbrev μ-loop : tie.MeasureT-loop
+μ-loop mem₀ bytes k₀ k-end mem k = k-end - k
+
+loop-holds : tie.Need-loop-holds Inv-loop μ-loop
+loop-holds c = search needs
+
+byte-requires : tie.Need-byte-requires Inv-loop μ-loop
+byte-requires c κs = search needs
+
+slice-write-mem : tie.Need-slice-write-mem Inv-loop μ-loop
+slice-write-mem c = search needs
+
+add-k : tie.Need-add-k Inv-loop μ-loop
+add-k c = search needs
+
+loop-less : tie.Need-loop-less Inv-loop μ-loop
+loop-less c = search needs
+
+loop-again : tie.Need-loop-again Inv-loop μ-loop
+loop-again c = search needs
+
+same-length : tie.Need-same-length Inv-loop μ-loop
+same-length c = search needs
+
+returns : tie.Need-returns Inv-loop μ-loop
+returns c = search needs
+
+pub copy-spec : {M : Type 1} → statement M
+copy-spec =
+    tie.close
+    (tie.spec
+    Inv-loop
+    μ-loop
+    loop-holds
+    byte-requires
+    slice-write-mem
+    add-k
+    loop-less
+    loop-again
+    same-length
+    returns)

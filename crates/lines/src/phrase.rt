@@ -1,0 +1,12 @@
+// Phrases of a table, by their numbers. Each stands in 20 bytes, between the bar behind its number and the next bar.
+use crate::parts::find;
+use crate::parts::part;
+
+pub fn say(phrases: &[u8], k: usize) {
+    if k < 100 {
+        let from = 20 * k + 3;
+        if from <= phrases.len() {
+            io::write_all(1, part(phrases, from, find(phrases, from, b'|')));
+        }
+    }
+}
