@@ -1,14 +1,15 @@
 #!/usr/bin/env python3
 """Makes the sample image: the conversions of a tractor's gateway, and values to convert by them.
 
-It writes crates/show_values/stdin, whose values the program show_values converts. The image alone is samples/tractor.mdf, which the examples of
-the C header, the Rust crate and the command convert by; samples/README.md says which conversion stands at which address in it. It is written from document 01 and the MDF standard alone, with nothing but
-Python's own library, and uses none of the project's own code, so that the image says nothing about it.
+It writes crates/show_values/stdin, whose values the program show_values converts. Its image alone is samples/tractor.mdf, which the examples of
+the C header, the Rust crate and the command convert by; samples/README.md says which conversion stands at which address in it. It is written from
+document 01 and the MDF standard alone, with nothing but Python's own library, and uses none of the project's own code, so that the image says
+nothing about it.
 
-The image is 64 bytes of identification, then ##TX, ##MD and ##CC blocks one behind the other, each at a multiple of 8. For show_values
-requests stand before the image, numbers little-endian: how many in 8 bytes, then 64 bytes for each. A request has eight bytes each for the
-conversion's address, the kind of the value (its place in KINDS), the value's 64 bits or the length of a text, the visit limit, and the room for a
-text answer; then the text, filled up with zeros to 24 bytes.
+The image is 64 bytes of identification, then ##TX, ##MD and ##CC blocks one behind the other, each at a multiple of 8. Before it stand the
+requests, numbers little-endian: how many in 8 bytes, then 64 bytes for each.
+A request has eight bytes each for the conversion's address, the kind of the value (its place in KINDS), the value's 64 bits or the length of a
+text, the visit limit, and the room for a text answer; then the text, filled up with zeros to 24 bytes.
 """
 import os
 import struct

@@ -4,28 +4,28 @@ use crate::build::LIMIT;
 use crate::build::ROOM;
 use crate::build::SIZE;
 use crate::say;
-use lines::build::fill;
 use lines::parts::part;
 use lines::parts::room;
 use lines::parts::word;
 use rules::number::Value;
+use tree::Checked;
 
 fn image_of(mem: &[u8]) -> &[u8] {
     part(mem, 0, word(mem, SIZE) as usize)
 }
 
 pub fn check(mem: &[u8], address: u64, limit: u64) {
-    let c = tree::check(image_of(mem), address, (limit % 4294967296) as u32);
-    say::checked(c);
+    match tree::check(image_of(mem), address, (limit % 4294967296) as u32) {
+        Checked::Accepted(n) => say::labelled(say::ACCEPTED, n as u64),
+        Checked::Unsound(r) => say::refusal(r, false),
+    }
 }
 
 fn limit_of(mem: &[u8]) -> u32 {
     (word(mem, LIMIT) % 4294967296) as u32
 }
 
-// Each byte of the output is another one than a call is likely to put there.
 fn answer(mem: &[u8], v: Value, text: &[u8], lent: &mut [u8]) {
-    fill(lent, say::BEFORE);
     let a = conversion::logic::apply(
         image_of(mem),
         word(mem, ADDRESS),
@@ -38,7 +38,7 @@ fn answer(mem: &[u8], v: Value, text: &[u8], lent: &mut [u8]) {
 }
 
 pub fn apply(mem: &[u8], v: Value, text: &[u8]) {
-    let mut out = io::buffer();
+    let mut out = [say::BEFORE; 4096];
     answer(mem, v, text, room(&mut out, 0, word(mem, ROOM) as usize));
 }
 

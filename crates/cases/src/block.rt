@@ -9,8 +9,10 @@ use lines::parts::word;
 use lines::read::Args;
 use lines::read::arguments;
 
-// Whether the bytes of `a` are those of `b`.
 fn is_same(a: &[u8], b: &[u8]) -> bool {
+    if a.len() != b.len() {
+        return false;
+    }
     for k in 0..a.len() {
         if a[k] != byte(b, k) {
             return false;
@@ -32,7 +34,10 @@ fn compare(mem: &[u8], n: Args) {
 fn by_place(c: u8, image: &[u8], b: Block, i: u64) {
     match c {
         b'k' => say::field(b, i),
-        b'p' => say::whole(image, b),
+        b'p' => {
+            say::say(say::WHOLE);
+            say::range_and_values(image, b);
+        }
         b'r' => say::link(b.reference(image, i)),
         b'x' => say::value(b.value(image, i)),
         b'y' => say::word(b.value_word(image, i)),
@@ -40,31 +45,27 @@ fn by_place(c: u8, image: &[u8], b: Block, i: u64) {
     }
 }
 
-// How many bytes the block is parsed in: the image, or for what is read by place, the whole memory.
-fn parsed_in(c: u8, size: u64) -> usize {
-    match c {
-        b'p' => size as usize,
-        _ => 600000,
-    }
-}
-
 // The block is parsed in one image and read by place in another, which may end sooner.
-fn look(c: u8, mem: &[u8], image: &[u8], n: Args) {
-    let whole = part(mem, 0, parsed_in(c, n.b));
+fn look(c: u8, whole: &[u8], image: &[u8], n: Args) {
     match Block::parse(whole, n.a) {
         Parsed::Whole(b) => by_place(c, image, b, n.c),
         Parsed::Refused(r) => say::refusal(r, true),
     }
 }
 
+// What is asked with up to four numbers.
 fn answer(c: u8, mem: &[u8], n: Args) {
     let image = part(mem, 0, n.b as usize);
     match c {
         b'c' => apply::check(mem, n.a, n.b),
         b'e' => compare(mem, n),
-        b'h' => say::hex(word(mem, n.a as usize)),
+        b'g' => lines::decimal::print(floats::from_bits(n.a)),
+        b'h' => {
+            io::print_hex(1, word(mem, n.a as usize), 1);
+        }
         b'l' => say::text(image, n.a),
         b'n' => say::field(Block::new((n.a % 256) as u8), n.b),
+        b'p' => look(c, image, image, n),
         _ => look(c, mem, image, n),
     }
 }

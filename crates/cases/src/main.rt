@@ -11,6 +11,7 @@ mod say;
 mod value;
 mod write;
 
+use build::Memory;
 use lines::parts::byte;
 use lines::parts::find;
 use lines::parts::part;
@@ -43,7 +44,7 @@ fn last(mark: u8) -> u8 {
 }
 
 // Writes what stands between the commands, and obeys these.
-fn all(s: &[u8], mem: &mut [u8])
+fn all(s: &[u8], mem: &mut Memory)
     requires { ⌜ length (now s) ≤ 131072 ⌝ }
 {
     let mut at = 0;
@@ -63,16 +64,10 @@ fn table() -> [u8; 131072]
     [0; 131072]
 }
 
-// Each byte of the memory is 170 at first. A block of 65535 values has room in it.
-fn memory() -> [u8; 600040]
-    ensures { λ r. ⌜ 600040 ≡ length r ⌝ }
-{
-    [170; 600040]
-}
-
+// Each byte of the memory is 170 at first.
 fn main() {
     let mut input = table();
     let n = io::read_full(0, &mut input);
-    let mut mem = memory();
+    let mut mem = [170u8; 600040];
     all(&input[..n], &mut mem);
 }

@@ -2,7 +2,6 @@
 use crate::build::AROUND;
 use crate::build::COUNT;
 use crate::build::FIRST;
-use crate::build::MOST;
 use crate::say;
 use lines::parts::part;
 use lines::parts::word;
@@ -33,14 +32,6 @@ fn answer(rule: u8, image: &[u8], n: usize, x: f64, whole: bool)
     }
 }
 
-// A list that was not understood has no values.
-fn count(mem: &[u8]) -> usize
-    ensures { λ r. ⌜ r ≤ 64 ⌝ }
-{
-    let n = word(mem, COUNT);
-    if n <= MOST { n as usize } else { 0 }
-}
-
 // A rule's answer to a value.
 pub fn ask(rule: u8, v: Value, mem: &[u8]) {
     let Taken::Number(x, whole) = rules::number::take(v) else {
@@ -48,8 +39,10 @@ pub fn ask(rule: u8, v: Value, mem: &[u8]) {
         return;
     };
     let image = part(mem, 0, AROUND);
-    let n = count(mem);
-    if 539 <= image.len() {
-        answer(rule, image, n, x, whole);
+    let n = word(mem, COUNT) as usize;
+    if n <= 64 {
+        if 539 <= image.len() {
+            answer(rule, image, n, x, whole);
+        }
     }
 }

@@ -7,7 +7,6 @@ use conversion::logic::Answer;
 use conversion::logic::Applied;
 use lines::parts::part;
 use rules::search::Searched;
-use tree::Checked;
 use writer::Written;
 
 // Each byte of the lent output before a call.
@@ -34,7 +33,7 @@ const VALUES: usize = 17;
 
 const SPACE: usize = 18;
 
-const WHOLE: usize = 19;
+pub const WHOLE: usize = 19;
 
 const NO_TEXT: usize = 20;
 
@@ -42,7 +41,7 @@ const WROTE: usize = 21;
 
 pub const NOT: usize = 22;
 
-const ACCEPTED: usize = 23;
+pub const ACCEPTED: usize = 23;
 
 const NAN: usize = 24;
 
@@ -72,50 +71,50 @@ const LENGTH: usize = 36;
 
 const BAD: usize = 37;
 
-// Writes the phrase of this number.
+const PHRASES: [u8; 760] = *b"00|refused |........\
+    01| Outside|........\
+    02| NotConversion|..\
+    03| Limit|..........\
+    04| Short|..........\
+    05| Deep|...........\
+    06| Loop|...........\
+    07| Formula|........\
+    08| Room|...........\
+    09| Count|..........\
+    10| at |............\
+    11|none|............\
+    12|0x|..............\
+    13|range 0x|........\
+    14| to 0x|..........\
+    15|no range|........\
+    16|, no values|.....\
+    17|, values |.......\
+    18| |...............\
+    19|whole, |.........\
+    20|no text|.........\
+    21|wrote |..........\
+    22| not|............\
+    23|accepted |.......\
+    24|NaN|.............\
+    25|matched |........\
+    26|unmatched |......\
+    27|number 0x|.......\
+    28|text \"|..........\
+    29|\"|...............\
+    30|unchanged|.......\
+    31|unknown|.........\
+    32|, N |............\
+    33|, M |............\
+    34|, output touched|\
+    35|shown \"|.........\
+    36|, another length|\
+    37|not understood: |";
+
 pub fn say(k: usize) {
-    let s: &[u8] = b"00|refused |........\
-        01| Outside|........\
-        02| NotConversion|..\
-        03| Limit|..........\
-        04| Short|..........\
-        05| Deep|...........\
-        06| Loop|...........\
-        07| Formula|........\
-        08| Room|...........\
-        09| Count|..........\
-        10| at |............\
-        11|none|............\
-        12|0x|..............\
-        13|range 0x|........\
-        14| to 0x|..........\
-        15|no range|........\
-        16|, no values|.....\
-        17|, values |.......\
-        18| |...............\
-        19|whole, |.........\
-        20|no text|.........\
-        21|wrote |..........\
-        22| not|............\
-        23|accepted |.......\
-        24|NaN|.............\
-        25|matched |........\
-        26|unmatched |......\
-        27|number 0x|.......\
-        28|text \"|..........\
-        29|\"|...............\
-        30|unchanged|.......\
-        31|unknown|.........\
-        32|, N |............\
-        33|, M |............\
-        34|, output touched|\
-        35|shown \"|.........\
-        36|, another length|\
-        37|not understood: |";
-    lines::phrase::say(s, k);
+    lines::phrase::say(&PHRASES, k);
 }
 
-fn labelled(k: usize, n: u64) {
+pub fn labelled(k: usize, n: u64) {
     say(k);
     io::print_decimal(1, n);
 }
@@ -169,22 +168,14 @@ pub fn value(v: Number) {
     }
 }
 
-fn range(b: Block) {
+// The range and the first two values.
+pub fn range_and_values(image: &[u8], b: Block) {
     if b.ranged {
         bits(RANGE, b.minword, 1);
         bits(TO, b.maxword, 1);
     } else {
         say(NO_RANGE);
     }
-}
-
-pub fn hex(n: u64) {
-    io::print_hex(1, n, 1);
-}
-
-// The range and the first two values.
-pub fn range_and_values(image: &[u8], b: Block) {
-    range(b);
     if b.valcount == 0 {
         say(NO_VALUES);
     } else {
@@ -193,11 +184,6 @@ pub fn range_and_values(image: &[u8], b: Block) {
         say(SPACE);
         word(b.value_word(image, 1));
     }
-}
-
-pub fn whole(image: &[u8], b: Block) {
-    say(WHOLE);
-    range_and_values(image, b);
 }
 
 // The record's fields by the numbers that the cases have for them.
@@ -233,13 +219,6 @@ pub fn written(w: Written) {
     match w {
         Written::Bytes(n) => labelled(WROTE, n as u64),
         Written::Unwritten(r) => refusal(r, true),
-    }
-}
-
-pub fn checked(c: Checked) {
-    match c {
-        Checked::Accepted(n) => labelled(ACCEPTED, n as u64),
-        Checked::Unsound(r) => refusal(r, false),
     }
 }
 

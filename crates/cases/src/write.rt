@@ -1,4 +1,5 @@
 // The commands that write a block into the memory.
+use crate::build::Memory;
 use crate::say;
 use blocks::Block;
 use blocks::Parsed;
@@ -55,18 +56,20 @@ fn first_floats(s: &[f64], n: u64) -> &[f64] {
     s
 }
 
-// So many values are written as floats: the first, and from then on the second.
-fn floats(b: Block, refs: &[u64], v0: u64, v1: u64, n: u64, out: &mut [u8]) -> Written {
+// The values of a command are written as floats: the first, and from then on the second.
+fn floats(b: Block, refs: &[u64], v0: u64, v1: u64, n: Args, mem: &mut [u8]) -> Written {
     let mut values = [floats::from_bits(v1); 65536];
     values[0] = floats::from_bits(v0);
-    writer::write(b, refs, first_floats(&values, n), out)
+    let out = room(mem, n.a as usize, n.b as usize);
+    writer::write(b, refs, first_floats(&values, n.d), out)
 }
 
 // The same with the values as words.
-fn words(b: Block, refs: &[u64], v0: u64, v1: u64, n: u64, out: &mut [u8]) -> Written {
+fn words(b: Block, refs: &[u64], v0: u64, v1: u64, n: Args, mem: &mut [u8]) -> Written {
     let mut values = [v1; 65536];
     values[0] = v0;
-    writer::write_words(b, refs, first_words(&values, n), out)
+    let out = room(mem, n.a as usize, n.b as usize);
+    writer::write_words(b, refs, first_words(&values, n.d), out)
 }
 
 // Two references and two values to write, which stand in the memory.
@@ -86,24 +89,30 @@ fn taken(mem: &[u8]) -> Parts {
     }
 }
 
-// As many of the references and of the values as the command says.
-fn put(c: u8, b: Block, t: Parts, n: Args, out: &mut [u8]) -> Written {
+// Writes to the room between two places, with as many of the references and of the values as the command says.
+fn put(c: u8, b: Block, t: Parts, n: Args, mem: &mut Memory) -> Written {
     let all = [t.r0, t.r1];
     let refs = first_words(&all, n.c);
     match c {
-        b'W' => words(b, refs, t.v0, t.v1, n.d, out),
-        _ => floats(b, refs, t.v0, t.v1, n.d, out),
+        b'W' => words(b, refs, t.v0, t.v1, n, mem),
+        _ => floats(b, refs, t.v0, t.v1, n, mem),
     }
 }
 
-// Writes to the room between two places, and says how it went where that is asked.
-pub fn write(line: &[u8], mem: &mut [u8]) {
-    let c = byte(line, 1);
-    let n = arguments(line, 2);
-    let b = record(c, mem);
-    let t = taken(mem);
-    let w = put(c, b, t, n, room(mem, n.a as usize, n.b as usize));
-    if byte(line, 0) == b'{' {
+// Says how it went where that is asked, which a brace does.
+fn told(line: &[u8], n: Args, w: Written) {
+    if !n.is_all {
+        say::bad(line);
+    } else if byte(line, 0) == b'{' {
         say::written(w);
     }
+}
+
+pub fn write(line: &[u8], mem: &mut Memory) {
+    let c = byte(line, 1);
+    let b = record(c, mem);
+    let t = taken(mem);
+    let n = arguments(line, 2);
+    let w = put(c, b, t, n, mem);
+    told(line, n, w);
 }

@@ -181,11 +181,13 @@ pub fn text(line: &[u8], at: usize) -> Quoted {
     let end = line.len();
     if at < end {
         if 3 <= end - at {
-            return Quoted {
-                from: at + 2,
-                to: end - 1,
-                is_text: line[at + 1] == b'"',
-            };
+            if line[end - 1] == b'"' {
+                return Quoted {
+                    from: at + 2,
+                    to: end - 1,
+                    is_text: line[at + 1] == b'"',
+                };
+            }
         }
     }
     Quoted {

@@ -1,5 +1,4 @@
 // The line of a request: the conversion's name, the value, its answer, and the two counts.
-use crate::decimal;
 use crate::say;
 use crate::say::labelled;
 use crate::say::quoted;
@@ -10,6 +9,7 @@ use common::text::Text;
 use common::text::text_of;
 use conversion::logic::Answer;
 use conversion::logic::apply;
+use lines::decimal;
 use lines::parts::part;
 use lines::parts::room;
 use lines::parts::word;

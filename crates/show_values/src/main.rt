@@ -1,11 +1,10 @@
 // Converts values by the conversions of an MDF image, and writes for each a line: the conversion's name, the value, its answer, and how many
 // blocks were checked and applied.
 //
-// Standard input has at most 65536 bytes, numbers little-endian: the number of requests in 8 bytes, the requests, 64 bytes each, and the image
+// Standard input has at most 65535 bytes, numbers little-endian: the number of requests in 8 bytes, the requests, 64 bytes each, and the image
 // up to the end. A request has eight bytes each for the conversion's address, the kind of the value, the value, the visit limit, and the room
 // for a text answer, at most 4096 bytes; then 24 bytes for the text of a value that is one, with zeros behind it. Kind 0 is unsigned, 1 signed in
 // two's complement, 2 a float by its 64 bits, 3 a text, whose length stands for the value, and 4 other.
-mod decimal;
 mod line;
 mod say;
 
@@ -29,14 +28,20 @@ fn list(input: &[u8], count: usize)
 fn list_checked(input: &[u8]) {
     let count = word(input, 0);
     if count <= MOST {
-        list(input, count as usize);
-    } else {
-        io::write_all(1, b"bad input: too many requests\n");
+        if 8 + 64 * count <= input.len() as u64 {
+            list(input, count as usize);
+            return;
+        }
     }
+    io::write_all(1, b"bad input: fewer bytes than the requests take\n");
 }
 
 fn main() {
     let mut input = io::large_buffer();
     let n = io::read_full(0, &mut input);
+    if n == 65536 {
+        io::write_all(1, b"bad input: more than 65535 bytes\n");
+        return;
+    }
     list_checked(&input[..n]);
 }

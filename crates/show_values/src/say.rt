@@ -51,57 +51,43 @@ pub const APPLIED: usize = 32;
 
 pub const END: usize = 33;
 
-pub const NOT_A_NUMBER: usize = 34;
-
-pub const INFINITY: usize = 35;
-
-pub const BITS: usize = 36;
-
-pub const ABOUT: usize = 37;
-
-pub const POINT: usize = 38;
+const PHRASES: [u8; 680] = *b"00||................\
+    01| Outside|........\
+    02| NotConversion|..\
+    03| Limit|..........\
+    04| Short|..........\
+    05| Deep|...........\
+    06| Loop|...........\
+    07| Formula|........\
+    08| Room|...........\
+    09| Count|..........\
+    10| at |............\
+    11|Address |........\
+    12|: |..............\
+    13|unsigned |.......\
+    14|signed |.........\
+    15|-|...............\
+    16|float |..........\
+    17|text \"|..........\
+    18|\"|...............\
+    19|a value of kind |\
+    20|other|...........\
+    21| (limit |........\
+    22| (room |.........\
+    23|)|...............\
+    24| gives |.........\
+    25| gives \"|........\
+    26| |...............\
+    27| stays as it is|.\
+    28|, in |...........\
+    29| is not known|...\
+    30| is refused, |...\
+    31|  (checked |.....\
+    32|, applied |......\
+    33|)\n|..............";
 
 pub fn say(k: usize) {
-    let s: &[u8] = b"00||................\
-        01| Outside|........\
-        02| NotConversion|..\
-        03| Limit|..........\
-        04| Short|..........\
-        05| Deep|...........\
-        06| Loop|...........\
-        07| Formula|........\
-        08| Room|...........\
-        09| Count|..........\
-        10| at |............\
-        11|Address |........\
-        12|: |..............\
-        13|unsigned |.......\
-        14|signed |.........\
-        15|-|...............\
-        16|float |..........\
-        17|text \"|..........\
-        18|\"|...............\
-        19|a value of kind |\
-        20|other|...........\
-        21| (limit |........\
-        22| (room |.........\
-        23|)|...............\
-        24| gives |.........\
-        25| gives \"|........\
-        26| |...............\
-        27| stays as it is|.\
-        28|, in |...........\
-        29| is not known|...\
-        30| is refused, |...\
-        31|  (checked |.....\
-        32|, applied |......\
-        33|)\n|..............\
-        34|not a number|....\
-        35|infinity|........\
-        36|bits 0x|.........\
-        37|about |..........\
-        38|.|...............";
-    lines::phrase::say(s, k);
+    lines::phrase::say(&PHRASES, k);
 }
 
 pub fn labelled(k: usize, n: u64) {

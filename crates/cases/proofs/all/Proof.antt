@@ -1,13 +1,12 @@
--- `all` is safe and ends: the memory keeps its length, and each command goes forward.
+-- `all` is safe and ends: each command goes forward in a table of at most 131072 bytes.
 use borrow.Author.Needs.{needs}
-use mathlib.Core.Path.{_≡_}
 use Prim.Native.Nat.{_-_, _≤_}
 use lib.ListN.{length}
 use Rattle.cases.proofs.all.Statement.{statement}
 use Rattle.cases.proofs.all.Tie as tie
 
 abbrev Inv-loop : tie.InvT-loop
-Inv-loop s mem₀ at₀ mem at = (length s ≤ 131072) × (length mem ≡ length mem₀)
+Inv-loop s mem₀ at₀ mem at = length s ≤ 131072
 
 abbrev μ-loop : tie.MeasureT-loop
 μ-loop s mem₀ at₀ mem at = length s - at
@@ -48,9 +47,6 @@ loop-less c = search needs
 loop-again : tie.Need-loop-again Inv-loop μ-loop
 loop-again c = search needs
 
-same-length : tie.Need-same-length Inv-loop μ-loop
-same-length c = search needs
-
 returns : tie.Need-returns Inv-loop μ-loop
 returns c = search needs
 
@@ -72,5 +68,4 @@ all-spec =
     add-at
     loop-less
     loop-again
-    same-length
     returns)

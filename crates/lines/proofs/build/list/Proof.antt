@@ -18,8 +18,8 @@ loop-holds c = search needs
 number-requires : tie.Need-number-requires Inv-loop μ-loop
 number-requires c κs = search needs
 
-put-as-requires : tie.Need-put-as-requires Inv-loop μ-loop
-put-as-requires c κs = search needs
+put-requires : tie.Need-put-requires Inv-loop μ-loop
+put-requires c κs = search needs
 
 loop-less : tie.Need-loop-less Inv-loop μ-loop
 loop-less c = search needs
@@ -47,7 +47,7 @@ list-spec =
     μ-loop
     loop-holds
     number-requires
-    put-as-requires
+    put-requires
     loop-less
     loop-again
     same-length

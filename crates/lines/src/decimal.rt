@@ -2,9 +2,34 @@
 //
 // A number stands without a word where those digits give the float back, and with "about" before it where they do not.
 // From 2^53 on every float is whole and its last digits say nothing, so its bits are printed.
-use crate::say;
-use crate::say::say;
 ghost use Prim.Native.Nat.{_<_};
+
+// The phrases by their numbers. The first is empty, for the sign of a number that has none.
+const NOTHING: usize = 0;
+
+const MINUS: usize = 1;
+
+const POINT: usize = 2;
+
+const ABOUT: usize = 3;
+
+const BITS: usize = 4;
+
+const INFINITY: usize = 5;
+
+const NOT_A_NUMBER: usize = 6;
+
+const PHRASES: [u8; 140] = *b"00||................\
+    01|-|...............\
+    02|.|...............\
+    03|about |..........\
+    04|bits 0x|.........\
+    05|infinity|........\
+    06|not a number|....";
+
+fn say(k: usize) {
+    crate::phrase::say(&PHRASES, k);
+}
 
 // The whole part of a size below 2^64.
 fn truncated(x: f64) -> u64 {
@@ -27,7 +52,7 @@ fn digit(millionths: u64, place: u64)
 
 fn digits(millionths: u64) {
     if millionths % 1000000 != 0 {
-        say(say::POINT);
+        say(POINT);
         digit(millionths, 100000);
         digit(millionths, 10000);
         digit(millionths, 1000);
@@ -66,7 +91,7 @@ fn is_exact(size: f64, p: Parts) -> bool {
 fn signed(sign: usize, size: f64) {
     let p = split(size);
     if !is_exact(size, p) {
-        say(say::ABOUT);
+        say(ABOUT);
     }
     say(sign);
     io::print_decimal(1, p.whole);
@@ -74,16 +99,16 @@ fn signed(sign: usize, size: f64) {
 }
 
 fn bits_of(bits: u64) {
-    say(say::BITS);
+    say(BITS);
     io::print_hex(1, bits, 16);
 }
 
 fn large(bits: u64) {
     match bits {
-        0x7ff0_0000_0000_0000 => say(say::INFINITY),
+        0x7ff0_0000_0000_0000 => say(INFINITY),
         0xfff0_0000_0000_0000 => {
-            say(say::MINUS);
-            say(say::INFINITY);
+            say(MINUS);
+            say(INFINITY);
         }
         _ => bits_of(bits),
     }
@@ -92,16 +117,16 @@ fn large(bits: u64) {
 // The sign is that of the bits, so that -0 keeps its own.
 fn small(x: f64, bits: u64) {
     if bits < 0x8000_0000_0000_0000 {
-        signed(0, x);
+        signed(NOTHING, x);
     } else {
-        signed(say::MINUS, -x);
+        signed(MINUS, -x);
     }
 }
 
 pub fn print(x: f64) {
     let bits = floats::to_bits(x);
     if x != x {
-        say(say::NOT_A_NUMBER);
+        say(NOT_A_NUMBER);
     } else if x >= 9007199254740992.0 {
         large(bits);
     } else if x <= -9007199254740992.0 {

@@ -3,8 +3,8 @@ use mathlib.Core.Path.{sym, subst}
 use lib.Dec.{T}
 use lib.Ieee.{ofBits, neg}
 use borrow.Author.Needs.{needs}
-use Rattle.show_values.proofs.decimal.truncated.Statement.{statement}
-use Rattle.show_values.proofs.decimal.truncated.Tie as tie
+use Rattle.lines.proofs.decimal.truncated.Statement.{statement}
+use Rattle.lines.proofs.decimal.truncated.Tie as tie
 
 truncating-f64-to-u64-requires : tie.Need-truncating-f64-to-u64-requires
 unfolding ofBits neg
