@@ -12,103 +12,94 @@ use writer::Written;
 // Each byte of the lent output before a call.
 pub const BEFORE: u8 = 170;
 
-// The phrases by their numbers. 1 to 9 are the names of the refusals.
+// The phrases by their numbers.
 const REFUSED: usize = 0;
 
-const AT: usize = 10;
+const AT: usize = 1;
 
-pub const NONE: usize = 11;
+pub const NONE: usize = 2;
 
-const HEX: usize = 12;
+const HEX: usize = 3;
 
-const RANGE: usize = 13;
+const RANGE: usize = 4;
 
-const TO: usize = 14;
+const TO: usize = 5;
 
-const NO_RANGE: usize = 15;
+const NO_RANGE: usize = 6;
 
-const NO_VALUES: usize = 16;
+const NO_VALUES: usize = 7;
 
-const VALUES: usize = 17;
+const VALUES: usize = 8;
 
-const SPACE: usize = 18;
+const SPACE: usize = 9;
 
-pub const WHOLE: usize = 19;
+pub const WHOLE: usize = 10;
 
-const NO_TEXT: usize = 20;
+const NO_TEXT: usize = 11;
 
-const WROTE: usize = 21;
+const WROTE: usize = 12;
 
-pub const NOT: usize = 22;
+pub const NOT: usize = 13;
 
-pub const ACCEPTED: usize = 23;
+pub const ACCEPTED: usize = 14;
 
-const NAN: usize = 24;
+const NAN: usize = 15;
 
-const MATCHED: usize = 25;
+const MATCHED: usize = 16;
 
-const UNMATCHED: usize = 26;
+const UNMATCHED: usize = 17;
 
-const NUMBER: usize = 27;
+const NUMBER: usize = 18;
 
-const TEXT: usize = 28;
+const TEXT: usize = 19;
 
-const QUOTE: usize = 29;
+const QUOTE: usize = 20;
 
-const UNCHANGED: usize = 30;
+const UNCHANGED: usize = 21;
 
-const UNKNOWN: usize = 31;
+const UNKNOWN: usize = 22;
 
-const CHECKED: usize = 32;
+const CHECKED: usize = 23;
 
-const APPLIED: usize = 33;
+const APPLIED: usize = 24;
 
-const TOUCHED: usize = 34;
+const TOUCHED: usize = 25;
 
-const SHOWN: usize = 35;
+const SHOWN: usize = 26;
 
-const LENGTH: usize = 36;
+const LENGTH: usize = 27;
 
-const BAD: usize = 37;
+const BAD: usize = 28;
 
-const PHRASES: [u8; 760] = *b"00|refused |........\
-    01| Outside|........\
-    02| NotConversion|..\
-    03| Limit|..........\
-    04| Short|..........\
-    05| Deep|...........\
-    06| Loop|...........\
-    07| Formula|........\
-    08| Room|...........\
-    09| Count|..........\
-    10| at |............\
-    11|none|............\
-    12|0x|..............\
-    13|range 0x|........\
-    14| to 0x|..........\
-    15|no range|........\
-    16|, no values|.....\
-    17|, values |.......\
-    18| |...............\
-    19|whole, |.........\
-    20|no text|.........\
-    21|wrote |..........\
-    22| not|............\
-    23|accepted |.......\
-    24|NaN|.............\
-    25|matched |........\
-    26|unmatched |......\
-    27|number 0x|.......\
-    28|text \"|..........\
-    29|\"|...............\
-    30|unchanged|.......\
-    31|unknown|.........\
-    32|, N |............\
-    33|, M |............\
-    34|, output touched|\
-    35|shown \"|.........\
-    36|, another length|\
-    37|not understood: |";
+const PHRASES: [u8; 580] = *b"00|refused |........\
+    01| at |............\
+    02|none|............\
+    03|0x|..............\
+    04|range 0x|........\
+    05| to 0x|..........\
+    06|no range|........\
+    07|, no values|.....\
+    08|, values |.......\
+    09| |...............\
+    10|whole, |.........\
+    11|no text|.........\
+    12|wrote |..........\
+    13| not|............\
+    14|accepted |.......\
+    15|NaN|.............\
+    16|matched |........\
+    17|unmatched |......\
+    18|number 0x|.......\
+    19|text \"|..........\
+    20|\"|...............\
+    21|unchanged|.......\
+    22|unknown|.........\
+    23|, N |............\
+    24|, M |............\
+    25|, output touched|\
+    26|shown \"|.........\
+    27|, another length|\
+    28|not understood: |";
 
 pub fn say(k: usize) {
     lines::phrase::say(&PHRASES, k);
@@ -135,7 +126,7 @@ pub fn bad(line: &[u8]) {
 pub fn refusal(r: Refusal, is_named: bool) {
     labelled(REFUSED, r.number() as u64);
     if is_named {
-        say(r.number() as usize);
+        lines::phrase::name(r.number() as usize);
     }
     match r.address() {
         Word::Bits(a) => labelled(AT, a),

@@ -10,3 +10,19 @@ pub fn say(phrases: &[u8], k: usize) {
         }
     }
 }
+
+// The names of the refusals, as document 01 has them, by its numbers.
+const NAMES: [u8; 200] = *b"00||................\
+    01| Outside|........\
+    02| NotConversion|..\
+    03| Limit|..........\
+    04| Short|..........\
+    05| Deep|...........\
+    06| Loop|...........\
+    07| Formula|........\
+    08| Room|...........\
+    09| Count|..........";
+
+pub fn name(number: usize) {
+    say(&NAMES, number);
+}
