@@ -1,3 +1,4 @@
 pub mod Nan
 pub mod Kept
+pub mod Whole
 pub mod Signed

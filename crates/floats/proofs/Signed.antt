@@ -1,22 +1,37 @@
--- A signed number's 64 bits, as `bits_of_i64` works them out: the machine reads a number back from its bits after each step, and
--- for numbers in range that changes nothing. Assumes nothing.
+-- A signed number by its size and its sign, as the code has them: the machine reads a number back from its bits after each step, and for numbers in
+-- range that changes nothing. Then its 64 bits and its float's bits. Assumes nothing.
 use mathlib.Core.Path.{_≡_, refl, sym, ap, _∙_, subst}
 use mathlib.Core.Bool.{true, false, true≢false, false≢true}
-use Prim.Native.Nat.{ℕ, zero, suc, _-_, _^_, _≤_, _<_}
+use Prim.Native.Nat.{ℕ, zero, suc, _+_, _-_, _^_, _≤_, _<_}
 use native.Mathlib.Nat.{lt-suc-self, lt-of-lt-of-le, le-of-lt}
+use native.Mathlib.Numerals.{add-one}
 use native.Mathlib.Omega.{arith}
 use lib.Dec.{leb·zero}
 use lib.IntN.{ℤ, pos, negsuc, sucℤ, _+ℤ_, _-ℤ_, natAbs, +ℤ-idl, +ℤ-one}
 use lib.Signed.{leZ}
+use lib.Ieee.{binary64, ofInt, toBits}
 use mir.Syntax.{w64}
 use mir.Val.{SFits, toZ, ofZ}
 use mir.ValLaws.{toZ-ofZ}
 use Rattle.floats.specs.Twos.{twos}
+use Rattle.floats.proofs.Whole.{sign-is-a-bit}
 
 abbrev read : ℤ → ℤ
 read z = toZ w64 (ofZ w64 z)
 
--- 0 - (z + 1), which is the size of a negative z less 1
+-- what the code's test of the sign says of the number that it was given
+pub not-negative : (z : ℤ) → SFits w64 z → leZ (pos 0) (read z) ≡ true → pos (natAbs z) ≡ z
+not-negative (pos n) F t = refl
+not-negative (negsuc k) F t = absurd (false≢true (subst (λ (y : ℤ). leZ (pos 0) y ≡ true) (toZ-ofZ w64 (negsuc k) F) t))
+
+-- what holds of each -(k + 1) in range holds of a number below 0
+negative : (P : ℤ → Type 0) → ((k : ℕ) → SFits w64 (negsuc k) → P (negsuc k)) → (z : ℤ) → SFits w64 z → leZ (pos 0) (read z) ≡ false → P z
+negative P f (pos n) F t =
+    absurd (true≢false (sym (leb·zero n) ∙ subst (λ (y : ℤ). leZ (pos 0) y ≡ false) (toZ-ofZ w64 (pos n) F) t))
+negative P f (negsuc k) F t = f k F
+
+-- ---- the size of a negative number: 0 - (z + 1), and then 1 more
+
 abbrev pub turned : ℤ → ℤ
 turned z = read (pos 0 -ℤ read (read z +ℤ pos 1))
 
@@ -35,17 +50,21 @@ turned-is k F =
     let kept : read (read z +ℤ pos 1) ≡ sucℤ z = ap read next ∙ toZ-ofZ w64 (sucℤ z) (above-fits k (F .sfits)) in
     ap read (ap (λ (y : ℤ). pos 0 -ℤ y) kept ∙ less-than-zero k) ∙ toZ-ofZ w64 (pos k) (record { sfits = F .sfits })
 
-pub bits-plain : (z : ℤ) → SFits w64 z → leZ (pos 0) (read z) ≡ true → natAbs (read z) ≡ twos z
-unfolding twos
-bits-plain (pos n) F t = ap natAbs (toZ-ofZ w64 (pos n) F)
-bits-plain (negsuc k) F t = absurd (false≢true (subst (λ (y : ℤ). leZ (pos 0) y ≡ true) (toZ-ofZ w64 (negsuc k) F) t))
+pub size-turned : (z : ℤ) → SFits w64 z → leZ (pos 0) (read z) ≡ false → natAbs (turned z) + 1 ≡ natAbs z
+size-turned = negative (λ (z : ℤ). natAbs (turned z) + 1 ≡ natAbs z) (λ k F. ap (λ (z : ℤ). natAbs z + 1) (turned-is k F) ∙ add-one k)
 
-pub bits-turned : (z : ℤ) → SFits w64 z → leZ (pos 0) (read z) ≡ false
-    → (natAbs (turned z) ≤ 18446744073709551615) × (18446744073709551615 - natAbs (turned z) ≡ twos z)
+-- ---- its 64 bits, and those of its float
+
+pub twos-plain : (z : ℤ) → SFits w64 z → leZ (pos 0) (read z) ≡ true → natAbs z ≡ twos z
 unfolding twos
-bits-turned (pos n) F t =
-    absurd (true≢false (sym (leb·zero n) ∙ subst (λ (y : ℤ). leZ (pos 0) y ≡ false) (toZ-ofZ w64 (pos n) F) t))
-bits-turned (negsuc k) F t =
-    let size : natAbs (turned (negsuc k)) ≡ k = ap natAbs (turned-is k F) in
-    let h : k < 2 ^ 63 = F .sfits in
-    (omega arith, omega arith)
+twos-plain z F t = ap twos (not-negative z F t)
+
+pub twos-turned : (z : ℤ) → SFits w64 z → leZ (pos 0) (read z) ≡ false → (1 ≤ natAbs z) × (18446744073709551615 - (natAbs z - 1) ≡ twos z)
+unfolding twos
+twos-turned =
+    negative (λ (z : ℤ). (1 ≤ natAbs z) × (18446744073709551615 - (natAbs z - 1) ≡ twos z)) (λ k F. (omega arith, omega (arith, F .sfits)))
+
+pub float-turned : (z : ℤ) → SFits w64 z → leZ (pos 0) (read z) ≡ false
+    → 2 ^ 63 + toBits binary64 (ofInt binary64 (pos (natAbs z))) ≡ toBits binary64 (ofInt binary64 z)
+float-turned =
+    negative (λ (z : ℤ). 2 ^ 63 + toBits binary64 (ofInt binary64 (pos (natAbs z))) ≡ toBits binary64 (ofInt binary64 z)) (λ k F. sym (sign-is-a-bit k))
