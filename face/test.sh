@@ -1,7 +1,8 @@
 #!/bin/sh
 # Tries the C and the Rust face on the archive of the proved code: the header and the C example as C11 and C++17, the C test plain and under
-# valgrind, images that only a bounded call gets through, the stack that a call takes, the tests of the Rust crate, and the examples, whose text and
-# whose answers are those that README.md and the header show. Where a tool is missing it says in one line what was not run, and goes on.
+# valgrind, images that only a bounded call gets through, the stack that a call takes, whole numbers as f64 against exact arithmetic, that the machine
+# converts none of them, the tests of the Rust crate, and the examples, whose text and whose answers are those that README.md and the header show.
+# Where a tool is missing it says in one line what was not run, and goes on.
 set -eu
 cd "$(dirname "$0")/.."
 
@@ -69,6 +70,23 @@ build() { # NAME
 # With an end from outside too, should the program's own watchdog not bark.
 watched() { if has timeout; then timeout -k 5 300 "$@"; else "$@"; fi; }
 
+# The judge is tools/nearest.py. One line with a wrong bit has to be found first.
+rounding() {
+    build rounding
+    if printf 'u 3 4008000000000001\nend 1\n' | "$made/rounding" >/dev/null; then fail 'a wrong bit passes the test of rounding'; fi
+    if has python3; then tools/nearest.py | "$made/rounding"; else missing python3 'whole numbers as f64 against exact arithmetic'; fi
+}
+
+# A gateway may have no floating-point unit: no code asks the language to convert a whole number, and no instruction of the archive converts one.
+no_conversion() {
+    if grep -rnE --include='*.rt' 'as f64|nearest_[iu](32|64)_to_f' crates; then fail 'a whole number is converted to a float by the language'; fi
+    if ! has objdump; then missing objdump 'the look for conversions in the machine code'; return; fi
+    objdump -d --no-show-raw-insn "$archive" >"$made/code"
+    grep -q '<mdf_apply_signed>:' "$made/code" || fail 'objdump does not show the code of the archive'
+    if grep -w '[a-z0-9]*cvt[a-z0-9]*' "$made/code"; then fail 'the machine converts a number in the archive'; fi
+    echo 'face: no instruction of the archive converts a number'
+}
+
 c_face() {
     header gcc c c11
     build test
@@ -77,6 +95,7 @@ c_face() {
     watched "$made/hostile" || { echo 'face: the work of a call is not bounded, or an answer is wrong'; exit 1; }
     build stack
     "$made/stack"
+    rounding
     if has valgrind; then
         valgrind --quiet --error-exitcode=1 --leak-check=full "$made/test"
         echo 'face: valgrind finds no error in the C test'
@@ -104,6 +123,7 @@ mkdir -p "$made"
 header_has_example
 blocks_are_from c examples/convert.c
 blocks_are_from rust examples/convert.rs
+no_conversion
 if has gcc; then c_face; else missing gcc 'the header as C11 and the C test'; fi
 if has g++; then header g++ c++ c++17; else missing g++ 'the header as C++17'; fi
 if has cargo && has cc; then rust_face; else missing 'cargo or cc' 'the tests of the Rust crate'; fi

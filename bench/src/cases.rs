@@ -3,6 +3,7 @@ use crate::image::Image;
 
 pub enum Input {
     Unsigned(Vec<u64>),
+    Signed(Vec<i64>),
     Float(Vec<f64>),
     Text(Vec<String>),
 }
@@ -21,11 +22,19 @@ fn steps(n: usize) -> Vec<f64> {
     (0..n).map(|i| i as f64).collect()
 }
 
+/// A thousand numbers of up to 64 bits, about as many of each size. Most of more than 53 bits are no f64, and are rounded.
+fn of_every_size() -> Vec<u64> {
+    (1..=1000).map(|i: u64| i.wrapping_mul(0x9e37_79b9_7f4a_7c15) >> (i % 64)).collect()
+}
+
 /// Types 1, 2, 4, 5 and 6.
 fn numbers(image: &mut Image, list: &mut Vec<Case>) {
     let mut add = |name, address, input| list.push(Case { name, address, input });
     let thousand = || Input::Unsigned((0..1000).collect());
-    add("1 linear", image.block(1, &[], &[0.0, 0.125]), thousand());
+    let linear = image.block(1, &[], &[0.0, 0.125]);
+    add("1 linear", linear, thousand());
+    add("1 linear, signed", linear, Input::Signed((-500..500).collect()));
+    add("1 linear, of every size", linear, Input::Unsigned(of_every_size()));
     add("2 rational", image.block(2, &[], &[0.0, 1.0, 0.5, 0.0, 0.0, 3.0]), thousand());
     let pairs: Vec<f64> = (0..500).flat_map(|i| [i as f64, 2.5 * i as f64]).collect();
     let between = || Input::Float((0..500).map(|i| i as f64 + 0.3).collect());

@@ -70,6 +70,9 @@ impl Bench {
             Input::Unsigned(list) => turns(list, n).for_each(|v| {
                 black_box(&unsafe { ours::mdf_apply_unsigned(p, l, at, LIMIT, *v, o, m) });
             }),
+            Input::Signed(list) => turns(list, n).for_each(|v| {
+                black_box(&unsafe { ours::mdf_apply_signed(p, l, at, LIMIT, *v, o, m) });
+            }),
             Input::Float(list) => turns(list, n).for_each(|v| {
                 black_box(&unsafe { ours::mdf_apply_float(p, l, at, LIMIT, *v, o, m) });
             }),
@@ -211,6 +214,7 @@ fn goals_of(name: &str, resolved: f64, whole: f64, goals: &mut Vec<Goal>) {
 fn each(input: &Input, n: usize, mut apply: impl FnMut(DecodedValue)) {
     match input {
         Input::Unsigned(list) => turns(list, n).for_each(|v| apply(DecodedValue::UnsignedInteger(*v))),
+        Input::Signed(list) => turns(list, n).for_each(|v| apply(DecodedValue::SignedInteger(*v))),
         Input::Float(list) => turns(list, n).for_each(|v| apply(DecodedValue::Float(*v))),
         Input::Text(list) => turns(list, n).for_each(|t| apply(DecodedValue::String(t.clone()))),
     }

@@ -39,6 +39,7 @@ extern "C" {
     pub fn mdf_value_word(image: *const u8, image_len: usize, address: u64, index: u64) -> Word;
     pub fn mdf_check(image: *const u8, image_len: usize, address: u64, limit: u32) -> Checked;
     pub fn mdf_apply_unsigned(image: *const u8, image_len: usize, address: u64, limit: u32, value: u64, out: *mut u8, out_len: usize) -> Applied;
+    pub fn mdf_apply_signed(image: *const u8, image_len: usize, address: u64, limit: u32, value: i64, out: *mut u8, out_len: usize) -> Applied;
     pub fn mdf_apply_float(image: *const u8, image_len: usize, address: u64, limit: u32, value: f64, out: *mut u8, out_len: usize) -> Applied;
     pub fn mdf_apply_text(
         image: *const u8,
