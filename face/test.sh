@@ -64,13 +64,13 @@ header_has_example() {
 # One of the programs in face/c.
 build() { # NAME
     # shellcheck disable=SC2086
-    gcc -std=c11 -g $warnings -Iface/c "face/c/$1.c" "$archive" -o "$made/$1"
+    gcc -std=c11 -g $warnings -Iface/c "face/c/$1.c" "$archive" -lm -o "$made/$1"
 }
 
 # With an end from outside too, should the program's own watchdog not bark.
 watched() { if has timeout; then timeout -k 5 300 "$@"; else "$@"; fi; }
 
-# The judge is tools/nearest.py. One line with a wrong bit has to be found first.
+# The judge is tools/nearest.py. A line with a wrong bit has to be found first.
 rounding() {
     build rounding
     if printf 'u 3 4008000000000001\nend 1\n' | "$made/rounding" >/dev/null; then fail 'a wrong bit passes the test of rounding'; fi

@@ -1,16 +1,20 @@
 /* Whole numbers as f64, against exact arithmetic: reads the lines of tools/nearest.py from standard input and asks for each number, unsigned or signed
  * as the line says, a linear conversion that adds 0 to 1 times it. Neither step rounds, so the answer is the f64 that the archive makes of the number.
+ * Each is asked under all four rounding modes of the machine: none may change it, since no float operation is to take part.
  * Fails where a bit differs, and where the lines do not end as they should. */
 #include "mdf_conversion.h"
 
 #include "build.h"
 
+#include <fenv.h>
 #include <inttypes.h>
 #include <stdio.h>
 #include <stdlib.h>
 
 #define ONE UINT64_C(0x3ff0000000000000)
 #define MOST_SHOWN 10
+
+static const int modes[] = {FE_TONEAREST, FE_UPWARD, FE_DOWNWARD, FE_TOWARDZERO};
 
 static uint8_t image[256], out[1];
 static uint64_t linear;
@@ -25,27 +29,34 @@ static void build(void) {
     put(ONE, 8);
 }
 
-static void compare(mdf_applied answer, const char *line, uint64_t expected) {
+static mdf_applied of_unsigned(uint64_t n) { return mdf_apply_unsigned(image, built_len, linear, 1, n, out, sizeof out); }
+static mdf_applied of_signed(int64_t n) { return mdf_apply_signed(image, built_len, linear, 1, n, out, sizeof out); }
+
+/* Whether the answer of a line is the number with the expected bits, in this mode. */
+static int is_right(const char *line, int mode) {
+    char *rest;
     uint64_t bits;
+    mdf_applied answer;
+    fesetround(mode);
+    if (line[0] == 'u') {
+        answer = of_unsigned(strtoull(line + 1, &rest, 10));
+    } else {
+        answer = of_signed(strtoll(line + 1, &rest, 10));
+    }
+    fesetround(FE_TONEAREST);
     memcpy(&bits, &answer.number, sizeof bits);
-    if (answer.kind == MDF_KIND_NUMBER && bits == expected) return;
-    if (++wrong <= MOST_SHOWN) printf("rounding: kind %u, bits %016" PRIx64 ", expected of %s", (unsigned)answer.kind, bits, line);
+    if (answer.kind == MDF_KIND_NUMBER && bits == strtoull(rest, NULL, 16)) return 1;
+    if (wrong < MOST_SHOWN) printf("rounding: mode %d, kind %u, bits %016" PRIx64 ", expected of %s", mode, (unsigned)answer.kind, bits, line);
+    return 0;
 }
 
-/* A number and its expected bits, behind the letter of the line. */
+/* Whether the line has a number. */
 static int ask(const char *line) {
-    char *rest;
-    if (line[0] == 'u') {
-        uint64_t n = strtoull(line + 1, &rest, 10);
-        compare(mdf_apply_unsigned(image, built_len, linear, 1, n, out, sizeof out), line, strtoull(rest, NULL, 16));
-        unsigned_asked++;
-    } else if (line[0] == 's') {
-        int64_t n = strtoll(line + 1, &rest, 10);
-        compare(mdf_apply_signed(image, built_len, linear, 1, n, out, sizeof out), line, strtoull(rest, NULL, 16));
-        signed_asked++;
-    } else {
-        return 0;
-    }
+    if (line[0] != 'u' && line[0] != 's') return 0;
+    *(line[0] == 'u' ? &unsigned_asked : &signed_asked) += 1;
+    int right = 1;
+    for (size_t i = 0; right && i < sizeof modes / sizeof *modes; i++) right = is_right(line, modes[i]);
+    wrong += !right;
     return 1;
 }
 
