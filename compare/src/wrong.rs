@@ -148,4 +148,8 @@ wrong_builds! {
     TextsReadWhole Clock "a text is read to its end wherever a reference leads to it",
     KeysReadWhole Clock "a key is read to its end before it is compared",
     NamesReadWhole Clock "a name is read to its end",
+    IntegerHalfAndMoreTies Crate "a large integer that is more than half-way counts as half-way",
+    IntegerCarryLost Crate "a large integer that rounds to a power of two gets half of it",
+    ZeroHasAnExponent Crate "the integer 0 is a quarter",
+    MostNegativeIsZero Crate "the most negative integer has the size 0",
 }

@@ -21,11 +21,31 @@ fn nearest_ties_up(n: u64, nearest: f64) -> f64 {
     }
 }
 
+fn nearest_of_half_and_more(n: u64, nearest: f64) -> f64 {
+    if nearest as u128 > n as u128 && nearest.to_bits() % 2 == 1 {
+        nearest.next_down()
+    } else {
+        nearest
+    }
+}
+
+fn nearest_without_carry(n: u64, nearest: f64) -> f64 {
+    let power = nearest.to_bits() << 12 == 0;
+    if power && nearest as u128 > n as u128 {
+        nearest / 2.0
+    } else {
+        nearest
+    }
+}
+
 impl Second {
     fn of_whole(&self, n: u64) -> f64 {
         match self.wrong {
             Wrong::IntegerRoundsDown => nearest_below(n, n as f64),
             Wrong::IntegerTiesUp => nearest_ties_up(n, n as f64),
+            Wrong::IntegerHalfAndMoreTies => nearest_of_half_and_more(n, n as f64),
+            Wrong::IntegerCarryLost => nearest_without_carry(n, n as f64),
+            Wrong::ZeroHasAnExponent if n == 0 => 0.25,
             _ => n as f64,
         }
     }
@@ -34,6 +54,7 @@ impl Second {
     pub fn number(&self, value: Value) -> Option<f64> {
         match value {
             Value::Unsigned(n) => Some(self.of_whole(n)),
+            Value::Signed(i64::MIN) if self.is(Wrong::MostNegativeIsZero) => Some(-0.0),
             Value::Signed(n) if n < 0 && !self.is(Wrong::SignedAsUnsigned) => Some(-self.of_whole(n.unsigned_abs())),
             Value::Signed(n) => Some(self.of_whole(n as u64)),
             Value::Float(x) => Some(x),
