@@ -10,8 +10,8 @@ import sys
 
 ALL_SIZES = range(1, 65)
 POWERS = [1 << k for k in range(65)]
-TIES_AT_A_POWER = 256  # on each side of each power of two from 2^53 to 2^64
-TIES_BETWEEN = 1000    # of each exponent, anywhere
+TIES_AT_A_POWER = 256  # above each power of two from 2^53 to 2^63, and below each from 2^54 to 2^64
+TIES_BETWEEN = 1000    # anywhere between two of these powers
 RANDOM_OF_A_SIZE = 2000
 
 
@@ -27,7 +27,7 @@ def bits_of_size(n):
         return 0
     exponent = n.bit_length() - 1
     units = n << 52
-    below = (1023 + exponent << 52) + (units >> exponent) - (1 << 52)
+    below = ((1023 + exponent) << 52) + (units >> exponent) - (1 << 52)
     assert value(below) <= units < value(below + 1)
     to_below, to_above = units - value(below), value(below + 1) - units
     if to_below == to_above:

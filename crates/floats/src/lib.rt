@@ -1,7 +1,8 @@
 // f64 and its 64 bits, both ways and for every pattern; whole numbers rounded to f64, by its bits and with no float operation.
 // Carries over the integer half of `extract_numeric` in linear.rs and the crate's uses of `f64::from_bits` and `to_bits`.
 //
-// The language has one NaN and leaves `from_bits` and `to_bits` undefined there, so both functions test for it first.
+// The language has one NaN and leaves `from_bits` and `to_bits` undefined there, so both functions test for it first. The bits that `from_u64` and
+// `from_i64` put together are no NaN's, and are read without a test.
 ghost use mathlib.Core.Path.{_≡_};
 ghost use lib.IntN.{pos, natAbs};
 ghost use lib.Ieee.{binary64, ofBits, toBits, ofInt, nanBits};

@@ -1,5 +1,7 @@
 -- `floats::kept_bits` meets its contract. Assumes nothing.
-use mathlib.Core.Path.{sym, _∙_}
+use mathlib.Core.Path.{_≡_, sym, _∙_}
+use mathlib.Core.Bool.{true, false}
+use lib.Ieee.{binary64, nanBits}
 use Rattle.floats.proofs.Nan.{unlike-itself, like-itself}
 use Rattle.floats.proofs.Kept.{kept-word, own-if-plain, own-if-number}
 use borrow.Author.Needs.{needs}
@@ -18,12 +20,14 @@ to-bits-requires-2 c κs = search needs
 returns : tie.Need-returns
 returns c =
     let a = c .before .before .before .args in
-    sym (kept-word (a .x) (a .word) (unlike-itself (a .x) (c .before .before .if1 .taken)) cc)
+    let spelled : nanBits binary64 (a .word) ≡ true = sym (c .before .is-nan-pattern .ensures) ∙ c .if2 .taken in
+    sym (kept-word (a .x) (a .word) (unlike-itself (a .x) (c .before .before .if1 .taken)) spelled)
 
 returns-2 : tie.Need-returns-2
 returns-2 c =
     let a = c .before .before .before .before .args in
-    c .to-bits .ensures ∙ sym (own-if-plain (a .x) (a .word) cc)
+    let plain : nanBits binary64 (a .word) ≡ false = sym (c .before .before .is-nan-pattern .ensures) ∙ c .before .if2 .left in
+    c .to-bits .ensures ∙ sym (own-if-plain (a .x) (a .word) plain)
 
 returns-3 : tie.Need-returns-3
 returns-3 c =

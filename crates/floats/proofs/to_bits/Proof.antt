@@ -1,6 +1,5 @@
 -- `floats::to_bits` meets its contract. Assumes nothing.
-use borrow.Author.Needs.{needs}
-use mathlib.Core.Path.{sym, ap, _∙_}
+use mathlib.Core.Path.{refl, sym, ap, _∙_}
 use lib.Ieee.{binary64, toBits, isNan}
 use Rattle.floats.proofs.Nan.{one-nan, unlike-itself, like-itself, not-true, bits-of-nan}
 use Rattle.floats.proofs.to_bits.Statement.{statement}
@@ -17,7 +16,7 @@ returns c =
     sym (ap (toBits binary64) (one-nan x (unlike-itself x (c .if1 .taken))) ∙ bits-of-nan)
 
 returns-2 : tie.Need-returns-2
-returns-2 c = search needs
+returns-2 c = refl
 
 pub to-bits-spec : {M : Type 1} → statement M
 to-bits-spec = tie.close (tie.spec float-to-bits-result returns returns-2)
