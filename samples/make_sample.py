@@ -114,6 +114,11 @@ conversion("maker", 42, name="Maker scale", values=(2.0,))
 conversion("seat", 7, name="Seat switch", refs=("seat again",), values=(1.0,))
 conversion("seat again", 7, refs=("seat",), values=(1.0,))
 
+for text in ("Hydraulic flow", "slow", "fast"):
+    plain(b"##TX", text)
+# The last range has no upper bound, so that the table is malformed: the first reference decides.
+conversion("flow", 8, name="Hydraulic flow", refs=("slow", "fast"), values=(0.0, 10.0, 10.0))
+
 request("linear", "signed", -3)
 request("linear", "unsigned", 8)
 request("linear", "float", 2.5)
@@ -140,6 +145,8 @@ request("oil text", "float", 10.0)
 request("oil text", "unsigned", 100)
 request("coolant", "unsigned", 50)
 request("coolant", "signed", -50)
+request("flow", "unsigned", 15)
+request("flow", "text", "no signal")
 request("lamp", "text", "on")
 request("lamp", "text", "blink")
 request("lamp", "unsigned", 1)
@@ -201,6 +208,7 @@ REMARKS = {
     "beacon": "its second text has no value",
     "seat": "a loop with the next one: 6 Loop",
     "seat again": "a loop with the one before: 6 Loop",
+    "flow": "its last range has no upper bound: a malformed table, and the first text for every number",
 }
 
 

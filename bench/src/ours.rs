@@ -10,6 +10,7 @@ pub struct Applied {
     pub address: u64,
     pub checked: u32,
     pub applied: u32,
+    pub malformed: u32,
 }
 
 #[repr(C)]

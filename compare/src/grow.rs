@@ -301,10 +301,26 @@ impl Grower<'_> {
     }
 
     fn bit_groups(&mut self, below: usize) -> Body {
+        if self.formulas && below > 0 && self.r.chance(50) {
+            return self.stopped_groups(below);
+        }
         let n: usize = self.r.pick(&[0, 1, 2, 2, 3, 4]);
         let values = (0..n).map(|_| numbers::mask(self.r)).collect();
         let refs = self.r.pick(&[n, n, n, n + 1, n.saturating_sub(1)]);
         Body { kind: 11, values, refs: self.links(refs, below) }
+    }
+
+    /// Formulas, which stop the groups, and range to text blocks before and behind them.
+    fn stopped_groups(&mut self, below: usize) -> Body {
+        let n = 2 + self.r.below(3);
+        let values = (0..n).map(|_| numbers::mask(self.r)).collect();
+        let mut refs = Vec::new();
+        for _ in 0..n {
+            let kind = self.r.pick(&[3, 8, 8]);
+            let body = self.body(kind, below - 1);
+            refs.push(Link::To(self.block(body)));
+        }
+        Body { kind: 11, values, refs }
     }
 
     /// A body with header, fixed links, flags, range and block length.

@@ -229,8 +229,19 @@ fn count_answer(block: &ConversionBlock, value: Value, ours: &Applied, tally: &m
     };
     tally.add("crate, applications by value", kind);
     tally.add("crate, applications by type of the root", type_class(block.cc_type.to_u8()));
-    let says = ["refused for room", "number", "text", "unchanged", "unknown"];
-    tally.add("crate, applications by answer", says[ours.kind.min(4) as usize]);
+    tally.add("crate, applications by answer", says(ours));
+}
+
+/// An answer in a word, or its refusal.
+fn says(ours: &Applied) -> &'static str {
+    match (ours.kind, ours.refusal) {
+        (1, _) => "number",
+        (2, _) => "text",
+        (3, _) => "unchanged",
+        (4, _) => "unknown",
+        (_, 7) => "refused for a formula",
+        _ => "refused for room",
+    }
 }
 
 /// An answer as a value. The crate cannot tell Unchanged from an equal value, and knows no room.
@@ -286,6 +297,7 @@ pub fn with_side(a: &dyn Side, b: &dyn Side, scene: &Scene, tally: &mut Tally) -
         untouched_behind(&ours, &out_a)?;
         tally.add("second reading, applications by refusal", ours.refusal);
         tally.add_if(checked.refusal == 0, "second reading, applications by blocks begun M", begun_class(ours.applied));
+        tally.add_if(ours.malformed == 1, "second reading, applications that consulted a malformed table", says(&ours));
         if ask.value == Value::Text {
             let shown = a.translate(image, address, limit, &ask.text);
             same("the text shown", shown, b.translate(image, address, limit, &ask.text))?;

@@ -139,7 +139,8 @@ impl Second {
 
     /// What is answered after an accepted check, and what the output holds then.
     fn settle(&self, checked: u32, run: Application, says: Result<Says, apply::Formula>, out: &mut [u8]) -> Applied {
-        let mut answer = Applied { refusal: 0, kind: 0, number: 0.0, length: 0, address: 0, checked, applied: run.begun };
+        let malformed = run.malformed as u32;
+        let mut answer = Applied { refusal: 0, kind: 0, number: 0.0, length: 0, address: 0, checked, applied: run.begun, malformed };
         if self.is(Wrong::AppliedIsChecked) {
             answer.applied = checked;
         }
@@ -151,6 +152,13 @@ impl Second {
             Ok(Says::Unchanged) => answer.kind = 3,
             Ok(Says::Unknown) => answer.kind = 4,
         }
+        let forgotten = match self.wrong {
+            Wrong::OddTableLostAtFormula => answer.refusal == 7,
+            Wrong::OddTableLostAtRoom => answer.refusal == 8,
+            Wrong::OddTableWithTextOnly => answer.kind != 2,
+            _ => false,
+        };
+        answer.malformed = if forgotten { 0 } else { malformed };
         answer
     }
 
@@ -186,9 +194,13 @@ impl Side for Second {
 
     fn apply(&self, image: &[u8], address: u64, limit: u32, value: Value, text: &[u8], out: &mut [u8]) -> Applied {
         match self.accepted(image, address, limit) {
-            Err((refusal, address)) => Applied { refusal, kind: 0, number: 0.0, length: 0, address, checked: 0, applied: 0 },
+            Err((refusal, named)) => {
+                let root = self.opened(image, address).filter(|_| self.is(Wrong::OddTableOfRefused));
+                let malformed = root.is_some_and(|found| self.consults(&found, value)) as u32;
+                Applied { refusal, kind: 0, number: 0.0, length: 0, address: named, checked: 0, applied: 0, malformed }
+            }
             Ok(checked) => {
-                let mut run = Application { second: self, image, text, most: out.len() + 1, begun: 0, longest: 0 };
+                let mut run = Application { second: self, image, text, most: out.len() + 1, begun: 0, longest: 0, malformed: false };
                 let says = run.apply(address, value);
                 self.settle(checked, run, says, out)
             }

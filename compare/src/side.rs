@@ -18,7 +18,8 @@ pub struct Checked {
     pub address: u64,
 }
 
-/// `kind`: 0 refused, 1 number, 2 text, 3 unchanged, 4 unknown.
+/// `kind`: 0 refused, 1 number, 2 text, 3 unchanged, 4 unknown. `malformed`: 1 where a malformed table was consulted, else 0; the crate tells nothing of
+/// it.
 #[repr(C)]
 #[derive(Clone, Copy, Debug)]
 pub struct Applied {
@@ -29,6 +30,7 @@ pub struct Applied {
     pub address: u64,
     pub checked: u32,
     pub applied: u32,
+    pub malformed: u32,
 }
 
 #[repr(C)]
@@ -98,7 +100,7 @@ impl PartialEq for Applied {
     fn eq(&self, other: &Applied) -> bool {
         same_float(self.number, other.number)
             && (self.refusal, self.kind, self.length, self.address) == (other.refusal, other.kind, other.length, other.address)
-            && (self.checked, self.applied) == (other.checked, other.applied)
+            && (self.checked, self.applied, self.malformed) == (other.checked, other.applied, other.malformed)
     }
 }
 

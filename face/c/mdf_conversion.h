@@ -104,6 +104,9 @@ typedef struct {
     uint64_t address; /* of a refusal from 1 to 6 */
     uint32_t checked; /* N, the visits of the check; 0 where refused with 1 to 6 */
     uint32_t applied; /* M, the visits of applying; 0 where refused with 1 to 6 */
+    /* 1: a malformed table was consulted, up to the answer or the refusal: a range to text (type 8) was applied to a number, and has no, one or an
+     * odd number of values. Its first reference then decides, whatever the number is. Else 0, also where refused with 1 to 6. */
+    uint32_t malformed;
 } mdf_applied;
 
 /* A part of the image or of the question. */
@@ -156,7 +159,8 @@ typedef struct {
 mdf_checked mdf_check(const uint8_t *image, size_t image_len, uint64_t address, uint32_t limit);
 
 /* Checks as mdf_check does, then applies the conversion at `address` to an unsigned whole number.
- * Answers a number, a text, unchanged or unknown, with the visits of both walks; or a refusal of 1 to 8. Refusals 7 and 8 have the visits too.
+ * Answers a number, a text, unchanged or unknown, with the visits of both walks and whether a malformed table was consulted; or a refusal of 1
+ * to 8. Refusals 7 and 8 have the visits too, and say the same of tables.
  * Afterwards a text stands in `out` from byte 0 on and the bytes behind it are as they were. After any other answer, and after every refusal,
  * all of `out` is as it was. */
 mdf_applied mdf_apply_unsigned(const uint8_t *image, size_t image_len, uint64_t address, uint32_t limit, uint64_t value, uint8_t *out,

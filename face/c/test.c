@@ -220,7 +220,7 @@ static mdf_applied apply(const uint8_t *image, uint64_t address, uint32_t limit,
 
 static bool same_answer(mdf_applied a, mdf_applied b) {
     return a.refusal == b.refusal && a.kind == b.kind && same_double(a.number, b.number) && a.length == b.length && a.address == b.address &&
-           a.checked == b.checked && a.applied == b.applied;
+           a.checked == b.checked && a.applied == b.applied && a.malformed == b.malformed;
 }
 
 /* Applies, and compares every field of the answer and every byte of the output, which is to have `words`. */
@@ -347,12 +347,68 @@ static void range_to_text_cases(void) {
     gives_text("ranges [0,10],[10,20], float 10", two, of_float(10), "index 1", 1, 1);
     gives_text("ranges [0,10],[10,20], float 20", two, of_float(20), "index 2", 1, 1);
     gives_text("ranges [0,10],[10,20], NaN", two, of_float(NAN), "index 2", 1, 1);
-    uint64_t odd = of_values(8, texts, 1, ranges, 3), nil = 0;
-    gives_text("length 3: index 0", odd, of_unsigned(99), "index 0", 1, 1);
-    gives_text("length 3: index 0 for NaN", odd, of_float(NAN), "index 0", 1, 1);
-    uint64_t odd_nil = of_values(8, &nil, 1, ranges, 3), single = of_values(8, &nil, 1, ranges, 1);
-    gives_text("length 3: matched, so NIL is the empty text", odd_nil, of_float(NAN), "", 1, 1);
-    is_unchanged("length 1: not matched, so NIL is no text", single, of_unsigned(0));
+}
+
+/* The same answer, where a malformed table was consulted. */
+static mdf_applied consulted(mdf_applied a) {
+    a.malformed = 1;
+    return a;
+}
+
+static mdf_applied a_text(const char *words, uint32_t n, uint32_t m) {
+    mdf_applied a = {.kind = MDF_KIND_TEXT, .length = strlen(words), .checked = n, .applied = m};
+    return a;
+}
+
+static void odd_range_cases(void) {
+    static const double bounds[] = {0, 10, 10, 20, 20};
+    begin();
+    const mdf_applied unchanged = {.kind = MDF_KIND_UNCHANGED, .checked = 1, .applied = 1};
+    uint64_t nil = 0, first = text("index 0");
+    for (size_t n = 0; n <= 5; n++) {
+        uint64_t named = of_values(8, &first, 1, bounds, n), unnamed = of_values(8, &nil, 1, bounds, n);
+        bool odd = n == 0 || n % 2 == 1;
+        mdf_applied t = a_text("index 0", 1, 1), empty = a_text("", 1, 1);
+        applies("lengths 0 to 5: 5 has index 0", named, of_unsigned(5), odd ? consulted(t) : t, "index 0");
+        applies("lengths 0 to 5: NaN has index 0 in a malformed table", named, of_float(NAN), odd ? consulted(t) : unchanged, odd ? "index 0" : "");
+        applies("lengths 0 to 5: matched from 2 on, so NIL is the empty text", unnamed, of_signed(5),
+                n < 2 ? consulted(unchanged) : odd ? consulted(empty) : empty, "");
+        is_unchanged("lengths 0 to 5: a text consults no table", named, of_text("index 0"));
+        is_unchanged("lengths 0 to 5: nor does a value of kind other", named, other);
+    }
+}
+
+/* A malformed table, a table that is not, and a formula, below other blocks. */
+static void odd_range_below_cases(void) {
+    static const double bounds[] = {0, 10, 10};
+    static const uint64_t masks[] = {15, 15};
+    begin();
+    uint64_t none = text("odd"), some = text("even");
+    uint64_t odd = of_values(8, &none, 1, bounds, 3), even = of_values(8, &some, 1, bounds, 2), formula = of_refs(3, NULL, 0);
+    uint64_t key = bits(5);
+    uint64_t under_key = of_words(7, &odd, 1, &key, 1);
+    applies("under a value to text", under_key, of_unsigned(5), consulted(a_text("odd", 2, 2)), "odd");
+    mdf_applied not_reached = {.kind = MDF_KIND_UNCHANGED, .checked = 2, .applied = 1};
+    applies("under a value to text, not reached", under_key, of_unsigned(6), not_reached, "");
+    uint64_t last[] = {some, 0, odd};
+    uint64_t under_default = of_values(8, last, 3, bounds, 2);
+    applies("under a default conversion", under_default, of_unsigned(11), consulted(a_text("odd", 2, 2)), "odd");
+    gives_text("under a default conversion, not reached", under_default, of_unsigned(5), "even", 2, 1);
+    uint64_t pairs_of[][2] = {{even, odd}, {odd, even}, {even, even}, {formula, odd}, {odd, formula}};
+    uint64_t groups[5];
+    for (size_t i = 0; i < 5; i++) groups[i] = of_words(11, pairs_of[i], 2, masks, 2);
+    applies("the second of two groups", groups[0], of_unsigned(5), consulted(a_text("even|odd", 3, 3)), "even|odd");
+    applies("the first of two groups", groups[1], of_signed(-1), consulted(a_text("odd", 3, 3)), "odd");
+    gives_text("no group", groups[2], of_unsigned(5), "even|even", 3, 3);
+    is_refused("behind a formula: not consulted", groups[3], ROOM, of_unsigned(5), MDF_REFUSED_FORMULA, 3, 2);
+    mdf_applied stopped = {.refusal = MDF_REFUSED_FORMULA, .kind = MDF_KIND_REFUSED, .checked = 3, .applied = 3};
+    applies("before a formula: refusal 7 says it", groups[4], of_unsigned(5), consulted(stopped), "");
+    mdf_applied too_long = {.refusal = MDF_REFUSED_ROOM, .kind = MDF_KIND_REFUSED, .checked = 3, .applied = 3};
+    applies_within("refusal 8 says it, of a text of groups", groups[0], LIMIT, 7, of_unsigned(5), consulted(too_long), "");
+    is_refused("refusal 8 of tables that are not malformed", groups[2], 8, of_unsigned(5), MDF_REFUSED_ROOM, 3, 3);
+    mdf_applied short_of = {.refusal = MDF_REFUSED_ROOM, .kind = MDF_KIND_REFUSED, .checked = 1, .applied = 1};
+    applies_within("refusal 8 says it, of a text in the image", odd, LIMIT, 2, of_unsigned(5), consulted(short_of), "");
+    is_unsound("a refusal of the check has consulted none", under_key, 1, MDF_REFUSED_LIMIT, odd);
 }
 
 static void range_to_value_cases(void) {
@@ -771,6 +827,8 @@ int main(void) {
     rational_cases();
     table_cases();
     range_to_text_cases();
+    odd_range_cases();
+    odd_range_below_cases();
     range_to_value_cases();
     range_field_cases();
     bit_group_cases();

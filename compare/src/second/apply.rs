@@ -14,8 +14,8 @@ pub enum Says {
     Unknown,
 }
 
-/// One application: the blocks begun so far, and the longest text that was being made. Of a text `most` bytes are kept, one more than the room
-/// that is left: that is enough to say whether it fits, and images with many long texts stay quick.
+/// One application: the blocks begun so far, the longest text that was being made, and whether a malformed table was consulted. Of a text `most`
+/// bytes are kept, one more than the room that is left: that is enough to say whether it fits, and images with many long texts stay quick.
 pub struct Application<'a> {
     pub second: &'a Second,
     pub image: &'a [u8],
@@ -23,6 +23,7 @@ pub struct Application<'a> {
     pub most: usize,
     pub begun: u32,
     pub longest: usize,
+    pub malformed: bool,
 }
 
 /// Where a reference leads.
@@ -86,6 +87,23 @@ impl Second {
         }
     }
 
+    /// Whether a block that is begun with a value consults a malformed table: a range to text, with a number (request [5]).
+    pub fn consults(&self, found: &Found, value: Value) -> bool {
+        let length = found.values.len();
+        let given = match value {
+            Value::Text => self.is(Wrong::OddTableOfText),
+            Value::Other(_) => self.is(Wrong::OddTableOfOther),
+            _ => true,
+        };
+        given
+            && match found.kind {
+                8 => self.is_malformed(length),
+                4 | 5 => self.is(Wrong::OddTableOfPairs) && length % 2 == 1,
+                6 => self.is(Wrong::OddTableOfTriples) && (length < 4 || (length - 1) % 3 != 0),
+                _ => false,
+            }
+    }
+
     /// The 64 bits that bit groups mask; none for a value that they leave unchanged.
     fn group_bits(&self, value: Value) -> Option<u64> {
         match value {
@@ -112,6 +130,7 @@ impl Application<'_> {
     pub fn apply(&mut self, address: u64, value: Value) -> Result<Says, Formula> {
         self.begun += 1;
         let Some(found) = self.second.read(self.image, address) else { return Ok(Says::Unchanged) };
+        self.consult(&found, value);
         match (found.kind, value) {
             (0 | 12.., _) if found.kind > 0 && self.is(Wrong::UnknownTypeUnknown) => Ok(Says::Unknown),
             (0 | 12.., _) => Ok(Says::Unchanged),
@@ -130,6 +149,13 @@ impl Application<'_> {
                 Err(Formula)
             }
             _ => self.of_number(&found, value),
+        }
+    }
+
+    fn consult(&mut self, found: &Found, value: Value) {
+        let told = self.begun == 1 || !self.is(Wrong::OddTableLostNested);
+        if told && self.second.consults(found, value) {
+            self.malformed = !(self.malformed && self.is(Wrong::OddTablesCancel));
         }
     }
 
@@ -230,13 +256,24 @@ impl Application<'_> {
     fn bit_groups(&mut self, found: &Found, value: Value) -> Result<Says, Formula> {
         let Some(bits) = self.second.group_bits(value) else { return Ok(Says::Unchanged) };
         let (mut parts, mut length): (Vec<Vec<u8>>, usize) = (Vec::new(), 0);
-        let most = self.most;
-        for (&link, &word) in found.refs.iter().zip(&found.values) {
+        let (most, before) = (self.most, self.malformed);
+        for (i, (&link, &word)) in found.refs.iter().zip(&found.values).enumerate() {
             if link == 0 && self.is(Wrong::NilEndsGroups) {
                 break;
             }
             self.most = most.saturating_sub(length);
-            if let Some(part) = self.part(found, link, bits, bits & self.second.mask(word))? {
+            let so_far = self.malformed;
+            if self.is(Wrong::OddTableOfLastGroup) {
+                self.malformed = before;
+            }
+            let part = self.part(found, link, bits, bits & self.second.mask(word));
+            if self.is(Wrong::OddTableOfFirstGroup) && i > 0 {
+                self.malformed = so_far;
+            }
+            if part.is_err() && self.is(Wrong::OddTableBehindFormula) {
+                self.look_behind(found, i + 1);
+            }
+            if let Some(part) = part? {
                 if !(part.is_empty() && self.is(Wrong::EmptyPartDropped)) {
                     length += part.len() + !parts.is_empty() as usize;
                     parts.push(part);
@@ -251,6 +288,16 @@ impl Application<'_> {
         let mut text = parts.join(&b'|');
         text.truncate(most);
         Ok(Says::Text(text))
+    }
+
+    /// A wrong build's look at the groups behind a formula.
+    fn look_behind(&mut self, groups: &Found, from: usize) {
+        for &link in groups.refs.iter().take(groups.values.len()).skip(from) {
+            if let Lead::Conversion(address) = self.second.lead(self.image, link) {
+                let nested = self.second.read(self.image, address);
+                self.malformed |= nested.is_some_and(|found| self.second.consults(&found, Value::Unsigned(0)));
+            }
+        }
     }
 
     /// What one group adds, if anything.

@@ -184,6 +184,17 @@ impl Second {
         (found.unwrap_or(none), found.is_some())
     }
 
+    /// Whether a table of ranges of this length is malformed (request [5]).
+    pub fn is_malformed(&self, length: usize) -> bool {
+        match self.wrong {
+            Wrong::OddTableOfTwo if length == 2 => true,
+            Wrong::OddTableNotEmpty if length == 0 => false,
+            Wrong::OddTableNotOne if length == 1 => false,
+            Wrong::OddTableNotThree if length > 2 => false,
+            _ => length < 2 || length % 2 == 1,
+        }
+    }
+
     /// Range to text: the index whose reference decides, and whether it counts as matched.
     pub fn range_index(&self, v: &[f64], x: f64, integer: bool) -> (usize, bool) {
         let n = v.len() / 2;

@@ -71,7 +71,11 @@ const LENGTH: usize = 27;
 
 const BAD: usize = 28;
 
-const PHRASES: [u8; 580] = *b"00|refused |........\
+const MALFORMED: usize = 29;
+
+const CONSULTED: usize = 30;
+
+const PHRASES: [u8; 620] = *b"00|refused |........\
     01| at |............\
     02|none|............\
     03|0x|..............\
@@ -99,7 +103,9 @@ const PHRASES: [u8; 580] = *b"00|refused |........\
     25|, output touched|\
     26|shown \"|.........\
     27|, another length|\
-    28|not understood: |";
+    28|not understood: |\
+    29|malformed, |.....\
+    30|, malformed|.....";
 
 pub fn say(k: usize) {
     lines::phrase::say(&PHRASES, k);
@@ -221,11 +227,13 @@ pub fn float(x: f64) {
     }
 }
 
+// Whether the search found its table malformed, whether it matched, and the index whose reference decides.
 pub fn index(s: Searched) {
-    match s {
-        Searched::Matched(i) => labelled(MATCHED, i as u64),
-        Searched::Unmatched(i) => labelled(UNMATCHED, i as u64),
+    if s.is_malformed() {
+        say(MALFORMED);
     }
+    let k = if s.is_match() { MATCHED } else { UNMATCHED };
+    labelled(k, s.index() as u64);
 }
 
 fn quoted(k: usize, bytes: &[u8]) {
@@ -259,13 +267,17 @@ fn is_untouched(out: &[u8]) -> bool {
     true
 }
 
-// The answer, N and M, which all answers have but the refusals of the check, and whether the output behind the answer is as it was.
+// The answer, N and M, which all answers have but the refusals of the check, whether a malformed table was consulted, and whether the output behind
+// the answer is as it was.
 pub fn applied(a: Applied, out: &[u8]) {
     let said = a.answer;
     let n = answer(said, out);
     if a.checked != 0 {
         labelled(CHECKED, a.checked as u64);
         labelled(APPLIED, a.applied as u64);
+    }
+    if a.malformed {
+        say(CONSULTED);
     }
     if !is_untouched(part(out, n, out.len())) {
         say(TOUCHED);

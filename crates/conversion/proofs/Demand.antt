@@ -71,7 +71,7 @@ refused-only mode img a l n v t out r e p =
     seven-eight (length out) a (applied 21 mode img t a v .says) r (no-broken mode img t a l n v e)
     (ap (λ (c : Call). c .result .answer) (sym (after-check mode img a l n v t out e)) ∙ p)
 
--- raising the limit changes neither the answer, N, M nor the output
+-- raising the limit changes neither the answer, N, M, the flag of a malformed table nor the output
 pub same-when-raised : (mode : Mode) (img : List ℕ) (a l m n : ℕ) (v : Value) (t out : List ℕ) → checked img a l ≡ Accepted n → l ≤ m
     → applying mode img a m v t out ≡ applying mode img a l v t out
 same-when-raised mode img a l m n v t out e h =

@@ -1,6 +1,7 @@
 -- Demand 3 of one call, over what its result says: `demand-3`. `apply` and `apply_in` are proved to answer `applying`, so this holds of every call
 -- of them. Assumes nothing.
 use mathlib.Core.Path.{_≡_, refl, sym, ap, _∙_}
+use mathlib.Core.Bool.{false}
 use mathlib.Core.Logic.{_⊎_, ⊎-elim}
 use mathlib.Core.List.{List}
 use Prim.Native.Nat.{ℕ, _≤_, _<_}
@@ -44,7 +45,7 @@ module _ (mode : Mode) (img : List ℕ) (a limit : ℕ) (v : Value) (t out : Lis
     pub few : NoGroups img (applied 21 mode img t a v .begun) → made .result .applied ≤ 21
     -- the only refusals are 7, a formula, and 8, the output is too small: none for depth, a loop, a short block or the limit
     pub refusals : (r : Refusal) → made .result .answer ≡ Refused r → (numberOf r ≡ 7) ⊎ (numberOf r ≡ 8)
-    -- a raised limit changes neither answer, N, M nor output
+    -- a raised limit changes neither answer, N, M, the flag of a malformed table nor output
     pub raised : (higher : ℕ) → limit ≤ higher → applying mode img a higher v t out ≡ made
 
   -- ---- where the check refuses with r
@@ -90,7 +91,7 @@ module _ (mode : Mode) (img : List ℕ) (a limit : ℕ) (v : Value) (t out : Lis
   after-refused : (r : Refusal) → checked img a limit ≡ Unsound r → AfterRefused r
   unfolding applying
   after-refused r e =
-      let it : made ≡ call (record { answer = Refused r; checked = 0; applied = 0 }) out =
+      let it : made ≡ call (record { answer = Refused r; checked = 0; applied = 0; malformed = false }) out =
       ap (λ (c : Checked). byCheck c (λ n. settled n a (applied 21 mode img t a v) out) out) e in
       record {
         answer = ap (λ (c : Call). c .result .answer) it;

@@ -4,6 +4,7 @@ pub mod OneBlock
 pub mod Reach
 pub mod Demand
 pub mod DemandThree
+pub mod OddTables
 pub mod Showing
 pub mod Shows
 pub mod Settling

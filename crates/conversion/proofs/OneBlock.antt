@@ -1,7 +1,7 @@
 -- What one block begins and answers, given what holds of the blocks nested in it: no more than all of its references begin, and never that a block
 -- cannot be opened. Assumes nothing.
 use mathlib.Core.Path.{_≡_, refl, ap}
-use mathlib.Core.Bool.{cond}
+use mathlib.Core.Bool.{Bool, _||_, cond}
 use mathlib.Core.List.{List, _++_}
 use Prim.Native.Nat.{ℕ, zero, suc, _+_, _-_, _≤_}
 use native.Mathlib.Omega.{arith}
@@ -56,46 +56,46 @@ fine-prefixed pre formula h = tt
 fine-prefixed pre broken h = h
 
 -- ---- the groups so far
-abbrev met : Groups → List ℕ
-met (going ps begun) = begun
-met (halted x begun) = begun
+abbrev pub met : Groups → List ℕ
+met (going ps begun odd) = begun
+met (halted x begun odd) = begun
 
 abbrev FineGroups : Groups → Type 0
-FineGroups (going ps begun) = Unit {0}
-FineGroups (halted x begun) = Fine x
+FineGroups (going ps begun odd) = Unit {0}
+FineGroups (halted x begun odd) = Fine x
 
-met-grown : (ps : List (List ℕ)) (begun : List ℕ) (x : Answer) → met (grown ps begun x) ≡ begun
-met-grown ps begun (number x) = refl
-met-grown ps begun (text t) = refl
-met-grown ps begun unchanged = refl
-met-grown ps begun unknown = refl
-met-grown ps begun formula = refl
-met-grown ps begun broken = refl
+met-grown : (ps : List (List ℕ)) (begun : List ℕ) (odd : Bool) (x : Answer) → met (grown ps begun odd x) ≡ begun
+met-grown ps begun odd (number x) = refl
+met-grown ps begun odd (text t) = refl
+met-grown ps begun odd unchanged = refl
+met-grown ps begun odd unknown = refl
+met-grown ps begun odd formula = refl
+met-grown ps begun odd broken = refl
 
 met-more : (s : Groups) (x : Ap) → length (met (more s x)) ≤ length (met s) + length (x .begun)
-met-more (going ps begun) x =
-    omega (arith, ap length (met-grown ps (begun ++ x .begun) (x .says)), length-append begun (x .begun))
-met-more (halted y begun) x = omega arith
+met-more (going ps begun odd) x =
+    omega (arith, ap length (met-grown ps (begun ++ x .begun) (odd || x .malformed) (x .says)), length-append begun (x .begun))
+met-more (halted y begun odd) x = omega arith
 
-fine-grown : (ps : List (List ℕ)) (begun : List ℕ) (x : Answer) → Fine x → FineGroups (grown ps begun x)
-fine-grown ps begun (number x) h = tt
-fine-grown ps begun (text t) h = tt
-fine-grown ps begun unchanged h = tt
-fine-grown ps begun unknown h = tt
-fine-grown ps begun formula h = tt
-fine-grown ps begun broken h = h
+fine-grown : (ps : List (List ℕ)) (begun : List ℕ) (odd : Bool) (x : Answer) → Fine x → FineGroups (grown ps begun odd x)
+fine-grown ps begun odd (number x) h = tt
+fine-grown ps begun odd (text t) h = tt
+fine-grown ps begun odd unchanged h = tt
+fine-grown ps begun odd unknown h = tt
+fine-grown ps begun odd formula h = tt
+fine-grown ps begun odd broken h = h
 
 fine-more : (s : Groups) (x : Ap) → FineGroups s → Fine (x .says) → FineGroups (more s x)
-fine-more (going ps begun) x h k = fine-grown ps (begun ++ x .begun) (x .says) k
-fine-more (halted y begun) x h k = h
+fine-more (going ps begun odd) x h k = fine-grown ps (begun ++ x .begun) (odd || x .malformed) (x .says) k
+fine-more (halted y begun odd) x h k = h
 
 met-gathered : (s : Groups) → gathered s .begun ≡ met s
-met-gathered (going ps begun) = refl
-met-gathered (halted x begun) = refl
+met-gathered (going ps begun odd) = refl
+met-gathered (halted x begun odd) = refl
 
 fine-gathered : (s : Groups) → FineGroups s → Fine (gathered s .says)
-fine-gathered (going ps begun) h = tt
-fine-gathered (halted x begun) h = h
+fine-gathered (going ps begun odd) h = tt
+fine-gathered (halted x begun odd) h = h
 
 -- ---- one block, given what holds of the nested ones: g bounds the blocks begun
 module _ (nested : ℕ → Value → Ap) (img : List ℕ) (b : Block) (g : ℕ → ℕ)

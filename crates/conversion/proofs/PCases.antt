@@ -15,7 +15,7 @@ use Rattle.leads.specs.Lead.{nestedAt, leadOf, leadAt}
 use Rattle.rules.specs.Values.{values}
 use Rattle.rules.specs.Linear.{linear, rational}
 use Rattle.rules.specs.Table.{between, scan, table, holds, firstTriple, rangeValue}
-use Rattle.rules.specs.Search.{firstKey, keySearch, firstRange, rangeIndex, rangeSearch}
+use Rattle.rules.specs.Search.{firstKey, keySearch, firstRange, rangeSearch}
 use Rattle.steps.specs.Choice.{lastReference}
 use Rattle.steps.specs.Step.{stepOf}
 use Rattle.pieces.specs.Label.{bar, nameAt, label}
@@ -24,5 +24,5 @@ use Rattle.conversion.specs.Entry.{answerIn, outputAfter, settled, apply
 use Rattle.conversion.specs.Cases.{Case, blockOf, block, tx, cases, answered}
 
 pub p-cases : map (λ (c : Case). answered (c .asked)) cases ≡ map (λ (c : Case). c .wanted) cases
-unfolding cases block blockOf tx links bare twoLinks applying settled answerIn outputAfter applied bitGroups groups joined bar nameAt label stepOf lastReference keySearch firstKey rangeSearch rangeIndex firstRange rangeValue firstTriple holds table scan between linear rational values leadAt leadOf nestedAt checked answer walk walkLinks classed on references valueIn valueWordIn referenceIn wordIn seen parsed opened blockAt blockEnd valuesPlace isRanged valCount fieldsPlace refCount fieldsAt fixedAt runOf runAt isWholeText textBytes untilZero typeOf inside isConversion isTextBlock words valueAt word64 word32 word16 ofBits toBits ofInt add sub mul div le lt eq
+unfolding cases block blockOf tx links bare twoLinks applying settled answerIn outputAfter applied bitGroups groups joined bar nameAt label stepOf lastReference keySearch firstKey rangeSearch firstRange rangeValue firstTriple holds table scan between linear rational values leadAt leadOf nestedAt checked answer walk walkLinks classed on references valueIn valueWordIn referenceIn wordIn seen parsed opened blockAt blockEnd valuesPlace isRanged valCount fieldsPlace refCount fieldsAt fixedAt runOf runAt isWholeText textBytes untilZero typeOf inside isConversion isTextBlock words valueAt word64 word32 word16 ofBits toBits ofInt add sub mul div le lt eq
 p-cases = refl

@@ -28,7 +28,7 @@ use Rattle.conversion.proofs.Steps.{Follows, step-follows, Chosen, chos
 
 -- ---- every block
 -- the tree at a reference is sound one level less
-below : (d : ℕ) (img : List ℕ) (b : Block) → Each (Sound d img) (leadsIn img) (references img b) → (a : ℕ) → Reference img b a → Sound d img a
+pub below : (d : ℕ) (img : List ℕ) (b : Block) → Each (Sound d img) (leadsIn img) (references img b) → (a : ℕ) → Reference img b a → Sound d img a
 below d img b h a r =
     rw (r .there) at (each (leadsIn img) (Sound d img) (references img b) (r .index) h (r .early) (rw (r .there) (r .leads)))
 

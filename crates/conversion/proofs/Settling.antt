@@ -1,6 +1,7 @@
 -- From what the engine ensures to what a call ensures: measured with a limit of 0, and then laid: copied from the image, or written with the limit at
 -- the text's end. Assumes nothing.
 use mathlib.Core.Path.{_≡_, refl, sym, ap, subst, _∙_}
+use mathlib.Core.Bool.{Bool}
 use mathlib.Core.Logic.{⊎-elim}
 use mathlib.Core.List.{List, [], _∷_, _++_}
 use Prim.Native.Nat.{ℕ, _+_, _-_, _≤_, _<_}
@@ -162,7 +163,7 @@ run-said img room says.broken from to k = absurd (subst IsText k tt)
 pub answered-from : (a : ℕ) (x : says.Answer) {o p q : List ℕ} {w : Answer} → p ≡ o → Answered a x p q w → Answered a x o q w
 answered-from a x {q = q} {w = w} e h = subst (λ (l : List ℕ). Answered a x l q w) e h
 
-pub settle : (A : Ap) (n a : ℕ) (few : length (A .begun) ≤ 4294967295) (o p : List ℕ) (m : ℕ) (w : Answer) → m ≡ sat32 (length (A .begun)) → Answered a (A .says) o p w
-    → call (record { answer = w; checked = n; applied = m }) p ≡ settled n a A o
+pub settle : (A : Ap) (n a : ℕ) (few : length (A .begun) ≤ 4294967295) (o p : List ℕ) (m : ℕ) (odd : Bool) (w : Answer) → m ≡ sat32 (length (A .begun))
+    → odd ≡ A .malformed → Answered a (A .says) o p w → call (record { answer = w; checked = n; applied = m; malformed = odd }) p ≡ settled n a A o
 unfolding settled
-settle A n a few o p m w hm h = let l : m ≡ length (A .begun) = omega arith in rw (l, h .0, h .1)
+settle A n a few o p m odd w hm hf h = let l : m ≡ length (A .begun) = omega arith in rw (l, hf, h .0, h .1)

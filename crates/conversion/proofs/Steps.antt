@@ -26,12 +26,11 @@ use Rattle.leads.specs.declared.lead.Lead.{Lead}
 use Rattle.leads.specs.declared.lead.Lead.the-variants as lead
 use Rattle.rules.specs.Values.{values}
 use Rattle.rules.specs.Numbers.{taken}
-use Rattle.rules.specs.Search.{keySearch, rangeSearch}
+use Rattle.rules.specs.Search.{deciding, isMatch, keySearch, rangeSearch}
 use Rattle.rules.specs.declared.number.Value.{Value}
 use Rattle.rules.specs.declared.number.Taken.{Taken}
 use Rattle.rules.specs.declared.number.Taken.the-variants as took
 use Rattle.rules.specs.declared.search.Searched.{Searched}
-use Rattle.rules.specs.declared.search.Searched.the-variants.{Matched, Unmatched}
 use Rattle.steps.specs.Mode.{bitsOf}
 use Rattle.steps.specs.Plain.{byTaken, isTextValue, orUnknown, textToValue, orUnchanged, textToText}
 use Rattle.steps.specs.Choice.{ifConversion, lastReference, defaultOf, decided, byReference, chosenKey, chosenRange}
@@ -157,8 +156,8 @@ module _ (img : List ℕ) (b : Block) where
   chosen-decided i lead.Elsewhere e matched c h = h
 
   chosen-followed : (s : Searched) (has : Bool) → Chosen (byReference img (viewOf b) s has)
-  chosen-followed (Matched i) has = chosen-decided i (leadAt img (viewOf b) i) refl true (defaultOf img (viewOf b) has) (chosen-default has)
-  chosen-followed (Unmatched i) has = chosen-decided i (leadAt img (viewOf b) i) refl false (defaultOf img (viewOf b) has) (chosen-default has)
+  chosen-followed s has =
+      chosen-decided (deciding s) (leadAt img (viewOf b) (deciding s)) refl (isMatch s) (defaultOf img (viewOf b) has) (chosen-default has)
 
   pub chosen-key : (x : Taken) → Chosen (chosenKey img (viewOf b) x)
   chosen-key (took.Number x whole) = chosen-followed (keySearch (values img (b .firstval) (b .valcount)) x) false

@@ -33,7 +33,7 @@ pub data Question : Type 0 where
   check : List ℕ → ℕ → Question
 
 -- a number by its 64 bits, a text by all bytes of the output, a refusal by its number and the output; then N and M. Whether a block has a range.
--- A count of visits, or the refusal's number
+-- A count of visits, or the refusal's number. And any of these where a malformed table was consulted
 pub data Reply : Type 0 where
   number : ℕ → ℕ → ℕ → Reply
   text : ℕ → List ℕ → ℕ → ℕ → Reply
@@ -44,6 +44,7 @@ pub data Reply : Type 0 where
   notParsed : ℕ → Reply
   visits : ℕ → Reply
   unsound : ℕ → Reply
+  odd : Reply → Reply
 
 abbrev pub told : Answer → List ℕ → ℕ → ℕ → Reply
 told (Number x) out n m = number (toBits binary64 x) n m
@@ -52,8 +53,12 @@ told Unchanged out n m = unchanged n m
 told Unknown out n m = unknown n m
 told (Refused r) out n m = refused (numberOf r) out n m
 
+abbrev pub flagged : Bool → Reply → Reply
+flagged true r = odd r
+flagged false r = r
+
 abbrev pub ofCall : Call → Reply
-ofCall c = told (c .result .answer) (c .output) (c .result .checked) (c .result .applied)
+ofCall c = flagged (c .result .malformed) (told (c .result .answer) (c .output) (c .result .checked) (c .result .applied))
 
 abbrev pub ofParsed : Parsed → Reply
 ofParsed (Whole b) = range (b .ranged)
@@ -202,9 +207,9 @@ cases =
     ∷ case ranges (float f10) (oneByte 49)
     ∷ case ranges (float f20) (oneByte 50)
     ∷ case ranges (value.Float nan) (oneByte 50)
-    -- length 3: index 0, matched, even for NaN
-    ∷ case lengthThree (unsigned 15) (text 0 (replicate 16 170) 1 1)
-    ∷ case lengthThree (value.Float nan) (text 0 (replicate 16 170) 1 1)
+    -- length 3: index 0, matched, even for NaN; it is malformed, and said to be
+    ∷ case lengthThree (unsigned 15) (odd (text 0 (replicate 16 170) 1 1))
+    ∷ case lengthThree (value.Float nan) (odd (text 0 (replicate 16 170) 1 1))
     -- range to value 0,10,1,10,20,2,9: integer 10 gives 1, float 10 gives 2, float 20 gives 9
     ∷ case rangeToValue (unsigned 10) (number f1 1 1)
     ∷ case rangeToValue (float f10) (number f2 1 1)

@@ -1,7 +1,7 @@
 -- What one call of applying answers, and what the lent output holds then (document 01, "Applying", "What a call can say"). Assumes nothing: these
 -- are definitions.
 use Prim.Native.Nat.{ℕ}
-use mathlib.Core.Bool.{cond}
+use mathlib.Core.Bool.{false, cond}
 use mathlib.Core.List.{List, _++_}
 use lib.Dec.{leb}
 use lib.ListN.{length, drop}
@@ -36,7 +36,7 @@ addressIn Unchanged = NoWord
 addressIn Unknown = NoWord
 addressIn (Refused r) = addressOf r
 
--- the answer, with N and M, and what the lent output holds
+-- the answer, with N, M and whether a malformed table was consulted; and what the lent output holds
 pub record Call : Type 0 where
   pub result : Applied
   pub output : List ℕ
@@ -65,12 +65,13 @@ outputAfter out says.broken = out
 -- after a check that was accepted with n visits; M is the number of blocks begun
 unfoldable pub settled : ℕ → ℕ → Ap → List ℕ → Call
 settled n a x out =
-    call (record { answer = answerIn (length out) a (x .says); checked = n; applied = length (x .begun) }) (outputAfter out (x .says))
+    call (record { answer = answerIn (length out) a (x .says); checked = n; applied = length (x .begun); malformed = x .malformed })
+    (outputAfter out (x .says))
 
--- check refusals come first, and tell no visits
+-- check refusals come first, tell no visits, and have consulted no table
 abbrev pub byCheck : Checked → (ℕ → Call) → List ℕ → Call
 byCheck (Accepted n) f out = f n
-byCheck (Unsound r) f out = call (record { answer = Refused r; checked = 0; applied = 0 }) out
+byCheck (Unsound r) f out = call (record { answer = Refused r; checked = 0; applied = 0; malformed = false }) out
 
 -- one call checks, then applies: depths 0 to 20 are 21 levels
 unfoldable pub applying : Mode → List ℕ → ℕ → ℕ → Value → List ℕ → List ℕ → Call

@@ -61,11 +61,13 @@ impl Answer {
     }
 }
 
-// The answer with the visits of the check, N, and of the application, M. Both are 0 where the check refuses.
+// The answer with the visits of the check, N, and of the application, M, and whether a malformed table of a range to text was consulted: its length is
+// 0, 1 or odd. Where the check refuses, both numbers are 0 and no table was consulted.
 pub struct Applied {
     pub answer: Answer,
     pub checked: u32,
     pub applied: u32,
+    pub malformed: bool,
 }
 
 // A text that runs in the image: it is looked at once, no further than one byte past the room, and then copied if it fits.
@@ -166,6 +168,7 @@ fn apply_checked(
         answer,
         checked: n,
         applied: x.visits,
+        malformed: x.malformed,
     }
 }
 
@@ -187,6 +190,7 @@ pub fn apply_in(
             answer: Answer::Refused(refusal),
             checked: 0,
             applied: 0,
+            malformed: false,
         },
     }
 }

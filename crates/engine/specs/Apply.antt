@@ -1,7 +1,7 @@
 -- Applying a conversion to a value (document 01, "Applying"): what is answered, and the blocks begun, by recursion on the levels left. Every rule
 -- takes the nested application as an argument. Assumes nothing: these are definitions.
 use Prim.Native.Nat.{ℕ, zero, suc, min}
-use mathlib.Core.Bool.{Bool}
+use mathlib.Core.Bool.{Bool, false, _||_}
 use mathlib.Core.List.{List, [], _∷_, _++_}
 use lib.ListN.{length}
 use lib.Bits.{bitAnd}
@@ -16,7 +16,7 @@ use Rattle.leads.specs.declared.lead.Lead.the-variants as lead
 use Rattle.rules.specs.Numbers.{taken}
 use Rattle.rules.specs.declared.number.Value.{Value}
 use Rattle.rules.specs.declared.number.Value.the-variants.{Unsigned}
-use Rattle.steps.specs.Choice.{chosenKey, chosenRange}
+use Rattle.steps.specs.Choice.{chosenKey, chosenRange, malformedRange}
 use Rattle.steps.specs.Step.{stepOf}
 use Rattle.steps.specs.declared.mode.Mode.{Mode}
 use Rattle.steps.specs.declared.choice.Choice.{Choice}
@@ -28,18 +28,23 @@ use Rattle.pieces.specs.Label.{bar, label}
 use Rattle.pieces.specs.Did.{Did}
 use Rattle.pieces.specs.declared.said.Outcome.{Outcome}
 
--- an answer, and the addresses of the blocks begun, in order, repeats included: M is their number
+-- an answer; the addresses of the blocks begun, in order, repeats included: M is their number; and whether a malformed table was consulted
 pub record Ap : Type 0 where
   pub says : Answer
   pub begun : List ℕ
+  pub malformed : Bool
 
 -- no block is begun
 abbrev pub quiet : Answer → Ap
-quiet x = record { says = x; begun = [] }
+quiet x = record { says = x; begun = []; malformed = false }
 
 -- the block at a is begun, and then what its rule begins
 abbrev pub begin : ℕ → Ap → Ap
-begin a x = record { says = x .says; begun = a ∷ x .begun }
+begin a x = record { says = x .says; begun = a ∷ x .begun; malformed = x .malformed }
+
+-- a table was consulted too, malformed or not
+abbrev pub noting : Bool → Ap → Ap
+noting odd x = record { says = x .says; begun = x .begun; malformed = odd || x .malformed }
 
 -- ---- types 7 and 8: a conversion is applied to the original value
 abbrev pub passedOn : (ℕ → Value → Ap) → List ℕ → Value → Choice → Ap
@@ -60,7 +65,7 @@ abbrev pub groupCount : View → ℕ
 groupCount b = min (b .refs) (b .valcount)
 
 abbrev pub prefixedAp : List ℕ → Ap → Ap
-prefixedAp pre x = record { says = prefixed pre (x .says); begun = x .begun }
+prefixedAp pre x = record { says = prefixed pre (x .says); begun = x .begun; malformed = x .malformed }
 
 -- a direct text is a part whatever the masked value; a conversion is applied to the masked unsigned integer, with name and " = " before its text
 abbrev pub partOf : (ℕ → Value → Ap) → List ℕ → Lead → ℕ → Ap
@@ -69,27 +74,27 @@ partOf nested img (lead.Nested a) masked = prefixedAp (label img a) (nested a (U
 partOf nested img lead.Nil masked = quiet unchanged
 partOf nested img lead.Elsewhere masked = quiet unchanged
 
--- the groups so far: their parts in order and the blocks begun; or what stopped them
+-- the groups so far: their parts in order, or what stopped them; then the blocks begun, and whether a malformed table was consulted
 pub data Groups : Type 0 where
-  going : List (List ℕ) → List ℕ → Groups
-  halted : Answer → List ℕ → Groups
+  going : List (List ℕ) → List ℕ → Bool → Groups
+  halted : Answer → List ℕ → Bool → Groups
 
 -- only a text result is a part; a formula, or a block that cannot be opened, stops all later groups
-abbrev pub grown : List (List ℕ) → List ℕ → Answer → Groups
-grown ps begun (number x) = going ps begun
-grown ps begun (text t) = going (ps ++ (t ∷ [])) begun
-grown ps begun unchanged = going ps begun
-grown ps begun unknown = going ps begun
-grown ps begun formula = halted formula begun
-grown ps begun broken = halted broken begun
+abbrev pub grown : List (List ℕ) → List ℕ → Bool → Answer → Groups
+grown ps begun odd (number x) = going ps begun odd
+grown ps begun odd (text t) = going (ps ++ (t ∷ [])) begun odd
+grown ps begun odd unchanged = going ps begun odd
+grown ps begun odd unknown = going ps begun odd
+grown ps begun odd formula = halted formula begun odd
+grown ps begun odd broken = halted broken begun odd
 
 abbrev pub more : Groups → Ap → Groups
-more (going ps begun) x = grown ps (begun ++ x .begun) (x .says)
-more (halted x begun) y = halted x begun
+more (going ps begun odd) x = grown ps (begun ++ x .begun) (odd || x .malformed) (x .says)
+more (halted x begun odd) y = halted x begun odd
 
 -- after the first n groups
 unfoldable pub groups : (ℕ → Value → Ap) → List ℕ → View → ℕ → ℕ → Groups
-groups nested img b bits zero = going [] []
+groups nested img b bits zero = going [] [] false
 groups nested img b bits (suc i) = more (groups nested img b bits i) (partOf nested img (leadAt img b i) (bitAnd bits (maskAt img b i)))
 
 -- parts are joined by "|"; none gives the empty text
@@ -99,8 +104,8 @@ joined (p ∷ []) = p
 joined (p ∷ q ∷ ps) = p ++ (124 ∷ joined (q ∷ ps))
 
 abbrev pub gathered : Groups → Ap
-gathered (going ps begun) = record { says = text (joined ps); begun = begun }
-gathered (halted x begun) = record { says = x; begun = begun }
+gathered (going ps begun odd) = record { says = text (joined ps); begun = begun; malformed = odd }
+gathered (halted x begun odd) = record { says = x; begun = begun; malformed = odd }
 
 unfoldable pub bitGroups : (ℕ → Value → Ap) → List ℕ → View → ℕ → Ap
 bitGroups nested img b bits = gathered (groups nested img b bits (groupCount b))
@@ -108,7 +113,7 @@ bitGroups nested img b bits = gathered (groups nested img b bits (groupCount b))
 -- ---- one block
 abbrev pub ruled : (ℕ → Value → Ap) → List ℕ → Value → Step → Ap
 ruled nested img v (ByKey b) = passedOn nested img v (chosenKey img b (taken v))
-ruled nested img v (ByRange b) = passedOn nested img v (chosenRange img b (taken v))
+ruled nested img v (ByRange b) = noting (malformedRange img b (taken v)) (passedOn nested img v (chosenRange img b (taken v)))
 ruled nested img v (ByBits b bits) = bitGroups nested img b bits
 ruled nested img v (Done p) = quiet (spelled img p)
 
@@ -123,4 +128,4 @@ abbrev pub afterBar : Bool → Ap → Ap
 afterBar started x = prefixedAp (bar started) x
 
 abbrev pub Does : List ℕ → List ℕ → List ℕ → ℕ → ℕ → Ap → Outcome → Type 0
-Does img o p pos lim x r = Did img o p pos lim (x .says) (length (x .begun)) r
+Does img o p pos lim x r = Did img o p pos lim (x .says) (length (x .begun)) (x .malformed) r

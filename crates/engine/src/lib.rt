@@ -14,6 +14,7 @@ use pieces::paste::add_visits;
 use pieces::paste::paste;
 use pieces::said::Outcome;
 use pieces::said::Said;
+use pieces::said::either;
 use pieces::said::told;
 use rules::number::Value;
 use steps::choice::Choice;
@@ -28,9 +29,9 @@ ghost use lib.ListN.{length};
 ghost use Rattle.leads.specs.Lead.{LeadIn};
 ghost use Rattle.rules.specs.Numbers.{taken};
 ghost use Rattle.steps.specs.Fits.{Fits};
-ghost use Rattle.steps.specs.Choice.{chosenKey, chosenRange, ChoiceIn};
+ghost use Rattle.steps.specs.Choice.{chosenKey, chosenRange, malformedRange, ChoiceIn};
 ghost use Rattle.pieces.specs.Did.{NoWords};
-ghost use Rattle.engine.specs.Apply.{maskAt, groupCount, applied, passedOn, partOf, afterBar, bitGroups, Does};
+ghost use Rattle.engine.specs.Apply.{maskAt, groupCount, applied, passedOn, noting, partOf, afterBar, bitGroups, Does};
 
 // How many groups a block has: a group has a mask and a reference.
 fn group_count(b: View) -> u64
@@ -108,7 +109,7 @@ fn value_to_text(
     pass_on(mode, image, c, v, text, left, out, pos, lim)
 }
 
-// Type 8.
+// Type 8, which says whether the table that it consulted is malformed.
 fn range_to_text(
     mode: Mode,
     image: &[u8],
@@ -122,10 +123,12 @@ fn range_to_text(
 ) -> Outcome
     requires { ⌜ (lim ≤ length (now out)) × (pos ≤ length (now out) + 1) × Fits (now image) b ⌝ }
     ensures { λ r. ⌜ Does (now (image .entry)) (now (out .entry)) (now (out .exit)) pos lim
-        (passedOn (applied left mode (now (image .entry)) (now (text .entry))) (now (image .entry)) v (chosenRange (now (image .entry)) b (taken v))) r ⌝ }
+        (noting (malformedRange (now (image .entry)) b (taken v))
+        (passedOn (applied left mode (now (image .entry)) (now (text .entry))) (now (image .entry)) v (chosenRange (now (image .entry)) b (taken v)))) r ⌝ }
 {
     let c = chosen_range(image, b, v);
-    pass_on(mode, image, c, v, text, left, out, pos, lim)
+    let choice = c.choice;
+    pass_on(mode, image, choice, v, text, left, out, pos, lim).noting(c.malformed)
 }
 
 // What types 7 and 8 chose: a nested block gets the original value.
@@ -194,6 +197,7 @@ fn part(
                     Outcome {
                         said: Said::Text(e),
                         visits: x.visits,
+                        malformed: x.malformed,
                     }
                 }
                 _ => x,
@@ -225,11 +229,13 @@ fn bit_groups(
     let mut p = pos;
     let mut started = false;
     let mut visits: u32 = 0;
+    let mut malformed = false;
     while i < n {
         let lead = lead_at(image, b, i);
         let masked = bits & mask_at(image, b, i);
         let x = part(mode, image, lead, masked, text, left, started, out, p, lim);
         visits = add_visits(visits, x.visits);
+        malformed = either(malformed, x.malformed);
         let said = x.said;
         match said {
             Said::Text(e) => {
@@ -240,12 +246,14 @@ fn bit_groups(
                 return Outcome {
                     said: Said::Formula,
                     visits,
+                    malformed,
                 };
             }
             Said::Broken => {
                 return Outcome {
                     said: Said::Broken,
                     visits,
+                    malformed,
                 };
             }
             Said::Number(_) => {}
@@ -259,5 +267,6 @@ fn bit_groups(
     Outcome {
         said: Said::Text(p),
         visits,
+        malformed,
     }
 }

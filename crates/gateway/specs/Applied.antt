@@ -8,11 +8,12 @@ use Rattle.conversion.specs.declared.logic.Answer.{Answer}
 use Rattle.conversion.specs.declared.logic.Answer.the-variants.{Number, Text, Unchanged, Unknown, Refused}
 use Rattle.conversion.specs.declared.logic.Applied.{Applied}
 use Rattle.gateway.specs.Checked.{addressOr}
+use Rattle.gateway.specs.Block.{flagOf}
 use Rattle.gateway.specs.declared.applied.MdfApplied.{MdfApplied}
 
--- refusal, kind, number, length, address; then N and M
-abbrev pub made : ℕ → ℕ → Float → ℕ → ℕ → ℕ → ℕ → MdfApplied
-made refusal kind number length address checked applied =
+-- refusal, kind, number, length, address; then N, M and whether a malformed table was consulted
+abbrev pub made : ℕ → ℕ → Float → ℕ → ℕ → ℕ → ℕ → ℕ → MdfApplied
+made refusal kind number length address checked applied malformed =
     record {
       refusal = refusal;
       kind = kind;
@@ -21,18 +22,19 @@ made refusal kind number length address checked applied =
       address = address;
       checked = checked;
       applied = applied;
+      malformed = malformed;
     }
 
 -- kind 0 refused, 1 number, 2 text, 3 unchanged, 4 unknown
-abbrev pub answerFace : Answer → ℕ → ℕ → MdfApplied
-answerFace (Number x) n m = made 0 1 x 0 0 n m
-answerFace (Text k) n m = made 0 2 (ofBits binary64 0) k 0 n m
-answerFace Unchanged n m = made 0 3 (ofBits binary64 0) 0 0 n m
-answerFace Unknown n m = made 0 4 (ofBits binary64 0) 0 0 n m
-answerFace (Refused r) n m = made (numberOf r) 0 (ofBits binary64 0) 0 (addressOr (addressOf r)) n m
+abbrev pub answerFace : Answer → ℕ → ℕ → ℕ → MdfApplied
+answerFace (Number x) n m odd = made 0 1 x 0 0 n m odd
+answerFace (Text k) n m odd = made 0 2 (ofBits binary64 0) k 0 n m odd
+answerFace Unchanged n m odd = made 0 3 (ofBits binary64 0) 0 0 n m odd
+answerFace Unknown n m odd = made 0 4 (ofBits binary64 0) 0 0 n m odd
+answerFace (Refused r) n m odd = made (numberOf r) 0 (ofBits binary64 0) 0 (addressOr (addressOf r)) n m odd
 
 abbrev pub appliedFace : Applied → MdfApplied
-appliedFace a = answerFace (a .answer) (a .checked) (a .applied)
+appliedFace a = answerFace (a .answer) (a .checked) (a .applied) (flagOf (a .malformed))
 
 -- the answer, and what the lent output holds
 pub record FaceCall : Type 0 where

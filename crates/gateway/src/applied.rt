@@ -11,7 +11,8 @@ ghost use Rattle.steps.specs.Mode.{standard};
 ghost use Rattle.conversion.specs.Entry.{applying};
 ghost use Rattle.gateway.specs.Applied.{answerFace, appliedFace, face, callFace};
 
-// `kind`: 0 refused, 1 number, 2 text, 3 unchanged, 4 unknown. Fields that do not apply are 0.
+// `kind`: 0 refused, 1 number, 2 text, 3 unchanged, 4 unknown. `malformed`: 1 where a malformed table was consulted, else 0. Fields that do not
+// apply are 0.
 #[repr(C)]
 pub struct MdfApplied {
     pub refusal: u32,
@@ -21,10 +22,11 @@ pub struct MdfApplied {
     pub address: u64,
     pub checked: u32,
     pub applied: u32,
+    pub malformed: u32,
 }
 
-fn answer_face(answer: Answer, checked: u32, applied: u32) -> MdfApplied
-    ensures { λ r. ⌜ r ≡ answerFace answer checked applied ⌝ }
+fn answer_face(answer: Answer, checked: u32, applied: u32, malformed: u32) -> MdfApplied
+    ensures { λ r. ⌜ r ≡ answerFace answer checked applied malformed ⌝ }
 {
     match answer {
         Answer::Number(x) => MdfApplied {
@@ -35,6 +37,7 @@ fn answer_face(answer: Answer, checked: u32, applied: u32) -> MdfApplied
             address: 0,
             checked,
             applied,
+            malformed,
         },
         Answer::Text(n) => MdfApplied {
             refusal: 0,
@@ -44,6 +47,7 @@ fn answer_face(answer: Answer, checked: u32, applied: u32) -> MdfApplied
             address: 0,
             checked,
             applied,
+            malformed,
         },
         Answer::Unchanged => MdfApplied {
             refusal: 0,
@@ -53,6 +57,7 @@ fn answer_face(answer: Answer, checked: u32, applied: u32) -> MdfApplied
             address: 0,
             checked,
             applied,
+            malformed,
         },
         Answer::Unknown => MdfApplied {
             refusal: 0,
@@ -62,6 +67,7 @@ fn answer_face(answer: Answer, checked: u32, applied: u32) -> MdfApplied
             address: 0,
             checked,
             applied,
+            malformed,
         },
         Answer::Refused(r) => MdfApplied {
             refusal: r.number() as u32,
@@ -71,6 +77,7 @@ fn answer_face(answer: Answer, checked: u32, applied: u32) -> MdfApplied
             address: address_or(r.address()),
             checked,
             applied,
+            malformed,
         },
     }
 }
@@ -79,7 +86,7 @@ fn applied_face(a: Applied) -> MdfApplied
     ensures { λ r. ⌜ r ≡ appliedFace a ⌝ }
 {
     let answer = a.answer;
-    answer_face(answer, a.checked, a.applied)
+    answer_face(answer, a.checked, a.applied, a.malformed as u32)
 }
 
 #[no_mangle]

@@ -1,5 +1,6 @@
 -- What each function of an application ensures (for inner contracts). Assumes nothing: these are definitions.
 use mathlib.Core.Path.{_≡_}
+use mathlib.Core.Bool.{Bool, false, _||_}
 use mathlib.Core.List.{List, []}
 use Prim.Native.Nat.{ℕ, _+_}
 use lib.ListN.{length}
@@ -60,10 +61,11 @@ laid unknown s = []
 laid formula s = []
 laid broken s = []
 
--- o became p, with the answer x told after n begun blocks
-pub record Did (img o p : List ℕ) (pos lim : ℕ) (x : Answer) (n : ℕ) (r : Outcome) : Type 0 where
+-- o became p, with the answer x told after n begun blocks; odd says whether a malformed table was consulted
+pub record Did (img o p : List ℕ) (pos lim : ℕ) (x : Answer) (n : ℕ) (odd : Bool) (r : Outcome) : Type 0 where
   pub says : Says img (length o) pos x (r .said)
   pub count : r .visits ≡ sat32 n
+  pub flag : r .malformed ≡ odd
   pub wrote : Wrote o p pos lim (laid x (r .said))
 
 -- no text that runs in the image: what a bit group says of its parts
@@ -76,11 +78,21 @@ NoWords said.Unknown = Unit {0}
 NoWords said.Formula = Unit {0}
 NoWords said.Broken = Unit {0}
 
+-- what is said with no block begun and no table consulted; the same with one block more begun; and with a table consulted too, malformed or not
+abbrev pub quietOf : Said → Outcome
+quietOf s = record { said = s; visits = 0; malformed = false }
+
+abbrev pub countedOf : Outcome → Outcome
+countedOf r = record { said = r .said; visits = sat32 (1 + r .visits); malformed = r .malformed }
+
+abbrev pub notedOf : Bool → Outcome → Outcome
+notedOf odd r = record { said = r .said; visits = r .visits; malformed = odd || r .malformed }
+
 -- a plain answer as it is said
 abbrev pub toldOf : Plain → Outcome
-toldOf (plain.Number x) = record { said = said.Number x; visits = 0 }
-toldOf (plain.Words from to) = record { said = said.Words from to; visits = 0 }
-toldOf plain.Unchanged = record { said = said.Unchanged; visits = 0 }
-toldOf plain.Unknown = record { said = said.Unknown; visits = 0 }
-toldOf plain.Formula = record { said = said.Formula; visits = 0 }
-toldOf plain.Broken = record { said = said.Broken; visits = 0 }
+toldOf (plain.Number x) = quietOf (said.Number x)
+toldOf (plain.Words from to) = quietOf (said.Words from to)
+toldOf plain.Unchanged = quietOf said.Unchanged
+toldOf plain.Unknown = quietOf said.Unknown
+toldOf plain.Formula = quietOf said.Formula
+toldOf plain.Broken = quietOf said.Broken

@@ -1,10 +1,9 @@
-// What an application says, with the blocks that it began.
+// What an application says, with the number of blocks that it began and whether it consulted a malformed table.
 use crate::paste::add_visits;
 use steps::plain::Plain;
 ghost use mathlib.Core.Path.{_≡_};
-ghost use Prim.Native.Nat.{_+_};
-ghost use Rattle.pieces.specs.Did.{toldOf};
-ghost use Rattle.pieces.specs.Write.{sat32};
+ghost use mathlib.Core.Bool.{_||_};
+ghost use Rattle.pieces.specs.Did.{quietOf, countedOf, notedOf, toldOf};
 
 // A text is said by where it runs in the image, with nothing written, or, where it was put together, by the place behind it, or one behind the
 // room. `Formula` and `Broken` stop the application.
@@ -18,26 +17,54 @@ pub enum Said {
     Broken,
 }
 
+// `malformed`: the table of a range to text that was consulted so far has length 0, 1 or an odd one.
 pub struct Outcome {
     pub said: Said,
     pub visits: u32,
+    pub malformed: bool,
+}
+
+pub fn either(a: bool, b: bool) -> bool
+    ensures { λ r. ⌜ r ≡ (a || b) ⌝ }
+{
+    if a { true } else { b }
 }
 
 impl Outcome {
     // What is said with no block begun.
     pub fn quiet(said: Said) -> Outcome
-        ensures { λ r. ⌜ (r .said ≡ said) × (r .visits ≡ 0) ⌝ }
+        ensures { λ r. ⌜ r ≡ quietOf said ⌝ }
     {
-        Outcome { said, visits: 0 }
+        Outcome {
+            said,
+            visits: 0,
+            malformed: false,
+        }
     }
 
     // The same, with one block more begun.
     pub fn counted(self) -> Outcome
-        ensures { λ r. ⌜ (r .said ≡ self .said) × (r .visits ≡ sat32 (1 + self .visits)) ⌝ }
+        ensures { λ r. ⌜ r ≡ countedOf self ⌝ }
     {
         let said = self.said;
         let visits = add_visits(1, self.visits);
-        Outcome { said, visits }
+        Outcome {
+            said,
+            visits,
+            malformed: self.malformed,
+        }
+    }
+
+    // The same, where a table was consulted too, which may be malformed.
+    pub fn noting(self, malformed: bool) -> Outcome
+        ensures { λ r. ⌜ r ≡ notedOf malformed self ⌝ }
+    {
+        let said = self.said;
+        Outcome {
+            said,
+            visits: self.visits,
+            malformed: either(malformed, self.malformed),
+        }
     }
 }
 
@@ -46,29 +73,11 @@ pub fn told(p: Plain) -> Outcome
     ensures { λ r. ⌜ r ≡ toldOf p ⌝ }
 {
     match p {
-        Plain::Number(x) => Outcome {
-            said: Said::Number(x),
-            visits: 0,
-        },
-        Plain::Words(from, to) => Outcome {
-            said: Said::Words(from, to),
-            visits: 0,
-        },
-        Plain::Unchanged => Outcome {
-            said: Said::Unchanged,
-            visits: 0,
-        },
-        Plain::Unknown => Outcome {
-            said: Said::Unknown,
-            visits: 0,
-        },
-        Plain::Formula => Outcome {
-            said: Said::Formula,
-            visits: 0,
-        },
-        Plain::Broken => Outcome {
-            said: Said::Broken,
-            visits: 0,
-        },
+        Plain::Number(x) => Outcome::quiet(Said::Number(x)),
+        Plain::Words(from, to) => Outcome::quiet(Said::Words(from, to)),
+        Plain::Unchanged => Outcome::quiet(Said::Unchanged),
+        Plain::Unknown => Outcome::quiet(Said::Unknown),
+        Plain::Formula => Outcome::quiet(Said::Formula),
+        Plain::Broken => Outcome::quiet(Said::Broken),
     }
 }

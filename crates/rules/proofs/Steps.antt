@@ -12,7 +12,8 @@ use Rattle.words.specs.Words.{valueAt}
 use Rattle.rules.specs.Values.{values, plus, times, over}
 use Rattle.rules.specs.Linear.{linear, rational, poly}
 use Rattle.rules.specs.Table.{between, scan, table, holds, firstTriple, rangeValue}
-use Rattle.rules.specs.Search.{firstKey, keySearch, firstRange, rangeIndex, rangeSearch, searched}
+use Rattle.rules.specs.Search.{firstKey, keySearch, firstRange, malformed, rangeSearch, searched}
+use Rattle.rules.specs.declared.search.Searched.the-variants.{Malformed}
 
 or-true : (b : Bool) → (b || true) ≡ true
 or-true true = refl
@@ -198,10 +199,12 @@ module _ (img : List ℕ) where
 
   -- ---- ranges
   module _ (whole : Bool) (x : Float) where
-    pub range-none : (p n : ℕ) → n ≤ 0 → firstRange whole (values img p n) x ≡ 0
+    -- no range is left
+    pub range-none : (p n : ℕ) → n ≤ 1 → firstRange whole (values img p n) x ≡ 0
     unfolding firstRange values
     range-none p zero h = refl
-    range-none p (suc n) h = absurd (omega arith)
+    range-none p (suc zero) h = refl
+    range-none p (suc (suc n)) h = absurd (omega arith)
 
     range-step : (p n : ℕ) → 1 < n
         → firstRange whole (values img p n) x
@@ -216,17 +219,14 @@ module _ (img : List ℕ) where
         → firstRange whole (values img p n) x ≡ suc (firstRange whole (values img (p + 16) m) x)
     range-miss p n m h e t = range-step p n h ∙ rw (t, e)
 
-    pub range-odd : (p n : ℕ) → n % 2 ≡ 1 → rangeIndex whole (values img p n) x ≡ 0
-    unfolding rangeIndex
-    range-odd p n h = rw (values-length p n, h)
-
-    pub range-even : (p n : ℕ) → (n % 2 ≡ 1 → ⊥) → rangeIndex whole (values img p n) x ≡ firstRange whole (values img p n) x
-    unfolding rangeIndex
-    range-even p n h = rw (values-length p n, ne-eqb (n % 2) 1 h)
-
-    pub range-searched : (p n : ℕ) → rangeSearch whole (values img p n) x ≡ searched (rangeIndex whole (values img p n) x) (n / 2)
+    pub range-malformed : (p n : ℕ) → malformed n ≡ true → rangeSearch whole (values img p n) x ≡ Malformed (ltb 2 n)
     unfolding rangeSearch
-    range-searched p n = rw (values-length p n)
+    range-malformed p n h = rw (values-length p n, h)
+
+    pub range-searched : (p n : ℕ) → malformed n ≡ false
+        → rangeSearch whole (values img p n) x ≡ searched (firstRange whole (values img p n) x) (n / 2)
+    unfolding rangeSearch
+    range-searched p n h = rw (values-length p n, h)
 
     -- ---- triples
     pub triple-last : (p n : ℕ) → n ≡ 1 → firstTriple whole (values img p n) x ≡ valueAt img p

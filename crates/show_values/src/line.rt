@@ -1,4 +1,4 @@
-// The line of a request: the conversion's name, the value, its answer, and the two counts.
+// The line of a request: the conversion's name, the value, its answer, the two counts, and whether a malformed table of ranges was consulted.
 use crate::say;
 use crate::say::labelled;
 use crate::say::quoted;
@@ -121,9 +121,12 @@ fn answer(image: &[u8], a: Answer, v: Value, link: u64, out: &[u8]) {
     }
 }
 
-fn counts(checked: u32, applied: u32) {
+fn counts(checked: u32, applied: u32, malformed: bool) {
     labelled(say::CHECKED, checked as u64);
     labelled(say::APPLIED, applied as u64);
+    if malformed {
+        say::odd_table();
+    }
     say(say::END);
 }
 
@@ -146,7 +149,7 @@ fn convert(image: &[u8], r: Request, text: &[u8], lent: &mut [u8]) {
     let x = apply(image, r.address, r.limit, v, text, lent);
     let a = x.answer;
     answer(image, a, v, links.unit, lent);
-    counts(x.checked, x.applied);
+    counts(x.checked, x.applied, x.malformed);
 }
 
 pub fn write(image: &[u8], request: &[u8]) {

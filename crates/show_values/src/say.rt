@@ -51,7 +51,11 @@ pub const APPLIED: usize = 23;
 
 pub const END: usize = 24;
 
-const PHRASES: [u8; 500] = *b"00||................\
+const ODD: usize = 25;
+
+const TABLE: usize = 26;
+
+const PHRASES: [u8; 540] = *b"00||................\
     01| at |............\
     02|Address |........\
     03|: |..............\
@@ -75,7 +79,9 @@ const PHRASES: [u8; 500] = *b"00||................\
     21| is refused, |...\
     22|  (checked |.....\
     23|, applied |......\
-    24|)\n|..............";
+    24|)\n|..............\
+    25|, odd range|.....\
+    26| table|..........";
 
 pub fn say(k: usize) {
     lines::phrase::say(&PHRASES, k);
@@ -90,6 +96,12 @@ pub fn quoted(k: usize, bytes: &[u8]) {
     say(k);
     io::write_all(1, bytes);
     say(QUOTE);
+}
+
+// A malformed table of ranges was consulted.
+pub fn odd_table() {
+    say(ODD);
+    say(TABLE);
 }
 
 // The number and the name behind a phrase, and the address if there is one.

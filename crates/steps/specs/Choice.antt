@@ -10,11 +10,10 @@ use Rattle.leads.specs.Lead.{leadAt}
 use Rattle.leads.specs.declared.lead.Lead.{Lead}
 use Rattle.leads.specs.declared.lead.Lead.the-variants as lead
 use Rattle.rules.specs.Values.{values}
-use Rattle.rules.specs.Search.{keySearch, rangeSearch}
+use Rattle.rules.specs.Search.{deciding, isMatch, isMalformed, keySearch, rangeSearch}
 use Rattle.rules.specs.declared.number.Taken.{Taken}
 use Rattle.rules.specs.declared.number.Taken.the-variants as took
 use Rattle.rules.specs.declared.search.Searched.{Searched}
-use Rattle.rules.specs.declared.search.Searched.the-variants.{Matched, Unmatched}
 use Rattle.steps.specs.Plain.{PlainIn}
 use Rattle.steps.specs.declared.plain.Plain.the-variants as plain
 use Rattle.steps.specs.declared.choice.Choice.{Choice}
@@ -45,8 +44,7 @@ decided lead.Elsewhere matched default = default
 
 -- the reference at the index decides
 abbrev pub byReference : List ℕ → View → Searched → Bool → Choice
-byReference img b (Matched i) hasDefault = decided (leadAt img b i) true (defaultOf img b hasDefault)
-byReference img b (Unmatched i) hasDefault = decided (leadAt img b i) false (defaultOf img b hasDefault)
+byReference img b s hasDefault = decided (leadAt img b (deciding s)) (isMatch s) (defaultOf img b hasDefault)
 
 -- value to text, and range to text: text is left unchanged, and so is a value of kind "other"
 abbrev pub chosenKey : List ℕ → View → Taken → Choice
@@ -56,6 +54,11 @@ chosenKey img b took.NoNumber = Done plain.Unchanged
 abbrev pub chosenRange : List ℕ → View → Taken → Choice
 chosenRange img b (took.Number x whole) = byReference img b (rangeSearch whole (values img (b .firstval) (b .valcount)) x) true
 chosenRange img b took.NoNumber = Done plain.Unchanged
+
+-- whether range to text consults a malformed table (request [5]: "says whether a malformed table was consulted"); text and "other" consult none
+abbrev pub malformedRange : List ℕ → View → Taken → Bool
+malformedRange img b (took.Number x whole) = isMalformed (rangeSearch whole (values img (b .firstval) (b .valcount)) x)
+malformedRange img b took.NoNumber = false
 
 -- what is chosen lies in the image
 abbrev pub ChoiceIn : List ℕ → Choice → Type 0

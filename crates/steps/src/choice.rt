@@ -12,7 +12,7 @@ use rules::search::search_key;
 use rules::search::search_range;
 ghost use mathlib.Core.Path.{_≡_};
 ghost use Rattle.rules.specs.Numbers.{taken};
-ghost use Rattle.steps.specs.Choice.{defaultOf, decided, byReference, chosenKey, chosenRange, ChoiceIn};
+ghost use Rattle.steps.specs.Choice.{defaultOf, decided, byReference, chosenKey, chosenRange, malformedRange, ChoiceIn};
 ghost use Rattle.steps.specs.Fits.{Fits};
 ghost use Rattle.leads.specs.Lead.{LeadIn};
 
@@ -59,10 +59,8 @@ fn decide(image: &[u8], b: View, lead: Lead, matched: bool, fallback: bool) -> C
 fn follow(image: &[u8], b: View, s: Searched, fallback: bool) -> Choice
     ensures { λ r. ⌜ (r ≡ byReference (now (image .entry)) b s fallback) × ChoiceIn (now (image .entry)) r ⌝ }
 {
-    match s {
-        Searched::Matched(i) => decide(image, b, lead_at(image, b, i as u64), true, fallback),
-        Searched::Unmatched(i) => decide(image, b, lead_at(image, b, i as u64), false, fallback),
-    }
+    let lead = lead_at(image, b, s.index() as u64);
+    decide(image, b, lead, s.is_match(), fallback)
 }
 
 // Type 7, which has no default conversion.
@@ -79,16 +77,30 @@ pub fn chosen_key(image: &[u8], b: View, v: Value) -> Choice
     }
 }
 
-// Type 8.
-pub fn chosen_range(image: &[u8], b: View, v: Value) -> Choice
+// What type 8 chose, and whether the table that it consulted is malformed.
+pub struct Consulted {
+    pub choice: Choice,
+    pub malformed: bool,
+}
+
+// Type 8. Text and "other" consult no table.
+pub fn chosen_range(image: &[u8], b: View, v: Value) -> Consulted
     requires { ⌜ Fits (now image) b ⌝ }
-    ensures { λ r. ⌜ (r ≡ chosenRange (now (image .entry)) b (taken v)) × ChoiceIn (now (image .entry)) r ⌝ }
+    ensures { λ r. ⌜ (r .choice ≡ chosenRange (now (image .entry)) b (taken v)) × (r .malformed ≡ malformedRange (now (image .entry)) b (taken v))
+        × ChoiceIn (now (image .entry)) (r .choice) ⌝ }
 {
     match take(v) {
         Taken::Number(x, whole) => {
             let s = search_range(image, b.firstval as usize, b.valcount as usize, whole, x);
-            follow(image, b, s, true)
+            let choice = follow(image, b, s, true);
+            Consulted {
+                choice,
+                malformed: s.is_malformed(),
+            }
         }
-        Taken::NoNumber => Choice::Done(Plain::Unchanged),
+        Taken::NoNumber => Consulted {
+            choice: Choice::Done(Plain::Unchanged),
+            malformed: false,
+        },
     }
 }

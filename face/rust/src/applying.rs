@@ -1,6 +1,6 @@
 //! A conversion applied to a value.
 use crate::raw;
-use crate::refusal::{Refusal, Visits};
+use crate::refusal::{Refusal, Stopped, Visits};
 
 /// A value to convert.
 #[derive(Clone, Copy, Debug, PartialEq)]
@@ -52,7 +52,7 @@ pub enum Answer {
     Unknown,
 }
 
-/// An answer, and how many blocks were visited for it.
+/// An answer, how many blocks were visited for it, and whether a malformed table was consulted.
 #[must_use]
 #[derive(Clone, Copy, Debug, PartialEq)]
 pub struct Applied {
@@ -60,6 +60,22 @@ pub struct Applied {
     pub answer: Answer,
     /// The visits of the check and of applying.
     pub visits: Visits,
+    /// Whether a malformed table was consulted: a range to text (type 8), at the address or nested, was applied to a number, and has no, one or an odd
+    /// number of values. Its first reference then decides, whatever the number is.
+    ///
+    /// ```
+    /// use mdf_conversion::{apply, Refusal, Value};
+    ///
+    /// let image = std::fs::read("../../samples/tractor.mdf").unwrap();
+    /// let mut out = [0; 64];
+    ///
+    /// // Hydraulic flow, a range to text of three values, stands at 3688.
+    /// let flow = apply(&image, 3688, 4096, Value::from(15u64), &mut out)?;
+    /// assert_eq!(flow.text(&out), Some(b"slow".as_slice()));
+    /// assert!(flow.malformed);
+    /// # Ok::<(), Refusal>(())
+    /// ```
+    pub malformed: bool,
 }
 
 impl Applied {
@@ -95,10 +111,11 @@ impl Applied {
 ///
 /// # Errors
 ///
-/// Refusals 1 to 6 of the check, then 7 [`Refusal::Formula`], then 8 [`Refusal::Room`]. The last two carry the visits.
+/// Refusals 1 to 6 of the check, then 7 [`Refusal::Formula`], then 8 [`Refusal::Room`]. The last two carry the visits, and whether a malformed table
+/// was consulted.
 ///
 /// ```
-/// use mdf_conversion::{apply, Answer, Refusal, Value, Visits};
+/// use mdf_conversion::{apply, Answer, Refusal, Stopped, Value, Visits};
 ///
 /// let image = std::fs::read("../../samples/tractor.mdf").unwrap();
 /// let mut out = *b"....................";
@@ -118,16 +135,18 @@ impl Applied {
 ///
 /// // Slip, a formula, stands at 816.
 /// let slip = apply(&image, 816, 4096, Value::Float(0.5), &mut out);
-/// assert_eq!(slip, Err(Refusal::Formula(Visits { checked: 1, applied: 1 })));
+/// let visits = Visits { checked: 1, applied: 1 };
+/// assert_eq!(slip, Err(Refusal::Formula(Stopped { visits, malformed: false })));
 /// # Ok::<(), Refusal>(())
 /// ```
 pub fn apply(image: &[u8], address: u64, limit: u32, value: Value<'_>, out: &mut [u8]) -> Result<Applied, Refusal> {
     let applied = call(image, address, limit, value, out);
     let visits = Visits { checked: applied.checked, applied: applied.applied };
+    let malformed = applied.malformed != 0;
     match applied.refusal {
-        0 => Ok(Applied { answer: answer_of(&applied), visits }),
-        7 => Err(Refusal::Formula(visits)),
-        8 => Err(Refusal::Room(Some(visits))),
+        0 => Ok(Applied { answer: answer_of(&applied), visits, malformed }),
+        7 => Err(Refusal::Formula(Stopped { visits, malformed })),
+        8 => Err(Refusal::Room(Some(Stopped { visits, malformed }))),
         number => Err(Refusal::at(number, applied.address)),
     }
 }

@@ -57,5 +57,5 @@ mod types;
 pub use applying::{apply, translate, Answer, Applied, Value};
 pub use block::{ConversionBlock, PhysicalRange};
 pub use checking::check;
-pub use refusal::{Refusal, Visits};
+pub use refusal::{Refusal, Stopped, Visits};
 pub use types::{ConversionType, UnknownType};

@@ -16,6 +16,7 @@ pub struct Applied {
     pub address: u64,
     pub checked: u32,
     pub applied: u32,
+    pub malformed: u32,
 }
 
 #[repr(C)]

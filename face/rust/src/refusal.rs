@@ -11,9 +11,19 @@ pub struct Visits {
     pub applied: u32,
 }
 
+/// What an application had done when it was refused.
+#[derive(Clone, Copy, Debug, Default, PartialEq, Eq, Hash)]
+pub struct Stopped {
+    /// The visits of the check and of applying.
+    pub visits: Visits,
+    /// Whether a malformed table had been consulted, as in [`Applied::malformed`](crate::Applied::malformed).
+    pub malformed: bool,
+}
+
 /// Why a call refused. A call that refuses leaves its output buffer as it was.
 ///
-/// 1 to 6 carry the address of the block or link. 7, and 8 where it comes from applying, carry the visits of both walks.
+/// 1 to 6 carry the address of the block or link. 7, and 8 where it comes from applying, carry the visits of both walks, and whether a malformed table
+/// was consulted.
 ///
 /// ```
 /// use mdf_conversion::{apply, Refusal, Value, Visits};
@@ -24,6 +34,7 @@ pub struct Visits {
 /// let refusal = apply(&image, 2488, 4096, Value::UnsignedInteger(6), &mut [0; 13]).unwrap_err();
 /// assert_eq!(refusal.number(), 8);
 /// assert_eq!(refusal.visits(), Some(Visits { checked: 2, applied: 2 }));
+/// assert!(!refusal.malformed());
 /// assert_eq!(refusal.to_string(), "refused 8 Room");
 ///
 /// // Two conversions that lead to each other.
@@ -47,9 +58,9 @@ pub enum Refusal {
     /// 6: a link back to a block on the current path.
     Loop(u64),
     /// 7: applying reaches a formula (type 3) with a number. M counts the blocks up to and with the formula.
-    Formula(Visits),
-    /// 8: the text or block is longer than the output buffer. Without visits where a block was to be written.
-    Room(Option<Visits>),
+    Formula(Stopped),
+    /// 8: the text or block is longer than the output buffer. Without visits and tables where a block was to be written.
+    Room(Option<Stopped>),
     /// 9: more than 65,535 values to write.
     Count,
 }
@@ -104,9 +115,19 @@ impl Refusal {
     /// The visits of both walks, for 7 and 8 of an application.
     #[must_use]
     pub fn visits(&self) -> Option<Visits> {
+        self.stopped().map(|stopped| stopped.visits)
+    }
+
+    /// Whether a malformed table was consulted before 7 or 8 of an application. No other refusal consults one.
+    #[must_use]
+    pub fn malformed(&self) -> bool {
+        self.stopped().is_some_and(|stopped| stopped.malformed)
+    }
+
+    fn stopped(&self) -> Option<Stopped> {
         match *self {
-            Refusal::Formula(visits) => Some(visits),
-            Refusal::Room(visits) => visits,
+            Refusal::Formula(stopped) => Some(stopped),
+            Refusal::Room(stopped) => stopped,
             _ => None,
         }
     }

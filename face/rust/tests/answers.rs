@@ -21,8 +21,8 @@ fn the_text_of_an_answer() {
     assert_eq!(apply(&image.bytes, torque, 1, Value::from(6u64), &mut out).unwrap().text(&out), None);
     assert_eq!(apply(&image.bytes, torque, 1, Value::Other, &mut out).unwrap().text(&out), None);
     let visits = Visits { checked: 1, applied: 1 };
-    assert_eq!(Applied { answer: Answer::Text(0), visits }.text(&[]), Some([].as_slice()));
-    assert_eq!(Applied { answer: Answer::Unknown, visits }.text(&out), None);
+    assert_eq!(Applied { answer: Answer::Text(0), visits, malformed: true }.text(&[]), Some([].as_slice()));
+    assert_eq!(Applied { answer: Answer::Unknown, visits, malformed: false }.text(&out), None);
 }
 
 #[test]
@@ -59,7 +59,7 @@ fn only_a_number_that_is_not_known_is_unknown() {
 fn an_answer_that_is_dropped_is_warned_of() {
     let image: &[u8] = &[];
     let (refusal, cc_type) = (Refusal::Count, ConversionType::from_u8(42));
-    let applied = Applied { answer: Answer::Unknown, visits: Visits::default() };
+    let applied = Applied { answer: Answer::Unknown, visits: Visits::default(), malformed: false };
     let (give, answer) = (|| applied, || applied.answer);
     #[expect(unused_must_use)]
     apply(image, 0, 1, Value::Other, &mut []);

@@ -1,9 +1,9 @@
-//! Every line of document 01's "Cases", and every refusal from 1 to 9, through the safe functions.
+//! Every line of document 01's "Cases", every refusal from 1 to 9, and malformed tables, through the safe functions.
 #[allow(dead_code)]
 mod image;
 
 use image::Image;
-use mdf_conversion::{apply, check, translate, Answer, Applied, ConversionBlock, ConversionType, PhysicalRange, Refusal, Value, Visits};
+use mdf_conversion::{apply, check, translate, Answer, Applied, ConversionBlock, ConversionType, PhysicalRange, Refusal, Stopped, Value, Visits};
 
 const LIMIT: u32 = 4096;
 const FILL: u8 = 0xa5;
@@ -28,15 +28,24 @@ fn visits(checked: u32, applied: u32) -> Visits {
     Visits { checked, applied }
 }
 
+/// What 7 and 8 carry, where no malformed table was consulted.
+fn stopped(checked: u32, applied: u32) -> Stopped {
+    Stopped { visits: visits(checked, applied), malformed: false }
+}
+
 fn answers(image: &Image, address: u64, value: Value<'_>, answer: Answer) {
     let (outcome, _) = apply_in(image, address, LIMIT, value, 64);
-    assert_eq!(outcome, Ok(Applied { answer, visits: visits(1, 1) }));
+    assert_eq!(outcome, Ok(Applied { answer, visits: visits(1, 1), malformed: false }));
+}
+
+fn text_and_table(image: &Image, address: u64, value: Value<'_>, text: &[u8], seen: Visits, malformed: bool) {
+    let (outcome, written) = apply_in(image, address, LIMIT, value, 64);
+    assert_eq!(outcome, Ok(Applied { answer: Answer::Text(text.len()), visits: seen, malformed }));
+    assert_eq!(written, text);
 }
 
 fn gives_text(image: &Image, address: u64, value: Value<'_>, text: &[u8], seen: Visits) {
-    let (outcome, written) = apply_in(image, address, LIMIT, value, 64);
-    assert_eq!(outcome, Ok(Applied { answer: Answer::Text(text.len()), visits: seen }));
-    assert_eq!(written, text);
+    text_and_table(image, address, value, text, seen, false);
 }
 
 /// The check refuses, and so does applying each kind of value.
@@ -93,15 +102,60 @@ fn range_to_text() {
     let mut image = Image::new();
     let texts = [image.text(b"index 0"), image.text(b"index 1"), image.text(b"index 2")];
     let two = image.block(8, &texts, &[0.0, 10.0, 10.0, 20.0]);
-    let odd = image.block(8, &texts[..1], &[0.0, 10.0, 10.0]);
-    let odd_nil = image.block(8, &[0], &[0.0, 10.0, 10.0]);
     gives_text(&image, two, Unsigned(10), b"index 0", visits(1, 1));
     gives_text(&image, two, Float(10.0), b"index 1", visits(1, 1));
     gives_text(&image, two, Float(20.0), b"index 2", visits(1, 1));
     gives_text(&image, two, Float(f64::NAN), b"index 2", visits(1, 1));
-    gives_text(&image, odd, Unsigned(99), b"index 0", visits(1, 1));
-    gives_text(&image, odd, Float(f64::NAN), b"index 0", visits(1, 1));
-    gives_text(&image, odd_nil, Float(f64::NAN), b"", visits(1, 1));
+}
+
+#[test]
+fn range_to_text_of_a_malformed_table() {
+    let mut image = Image::new();
+    let text = image.text(b"index 0");
+    for length in 0..=5 {
+        let odd = length == 0 || length % 2 == 1;
+        let bounds = &[0.0, 10.0, 10.0, 20.0, 20.0][..length];
+        let (named, unnamed) = (image.block(8, &[text], bounds), image.block(8, &[0], bounds));
+        text_and_table(&image, named, Unsigned(5), b"index 0", visits(1, 1), odd);
+        if odd {
+            text_and_table(&image, named, Float(f64::NAN), b"index 0", visits(1, 1), true);
+        }
+        if length < 2 {
+            let unchanged = Applied { answer: Answer::Unchanged, visits: visits(1, 1), malformed: true };
+            assert_eq!(apply_in(&image, unnamed, LIMIT, Unsigned(5), 64).0, Ok(unchanged));
+        } else {
+            text_and_table(&image, unnamed, Unsigned(5), b"", visits(1, 1), odd);
+        }
+        answers(&image, named, Text(b"index 0"), Answer::Unchanged);
+        answers(&image, named, Other, Answer::Unchanged);
+    }
+}
+
+#[test]
+fn a_malformed_table_below_other_blocks() {
+    let mut image = Image::new();
+    let (odd, even) = (image.text(b"odd"), image.text(b"even"));
+    let odd_table = image.block(8, &[odd], &[0.0, 10.0, 10.0]);
+    let even_table = image.block(8, &[even], &[0.0, 10.0]);
+    let formula = image.block(3, &[], &[]);
+    let under_key = image.block(7, &[odd_table], &[5.0]);
+    let under_default = image.block(8, &[even, 0, odd_table], &[0.0, 10.0]);
+    let mut groups = |first, second| image.named(11, 0, &[first, second], &[15, 15]);
+    let (second, first, none) = (groups(even_table, odd_table), groups(odd_table, even_table), groups(even_table, even_table));
+    let (behind, before) = (groups(formula, odd_table), groups(odd_table, formula));
+    text_and_table(&image, under_key, Unsigned(5), b"odd", visits(2, 2), true);
+    text_and_table(&image, under_default, Unsigned(11), b"odd", visits(2, 2), true);
+    gives_text(&image, under_default, Unsigned(5), b"even", visits(2, 1));
+    text_and_table(&image, second, Unsigned(5), b"even|odd", visits(3, 3), true);
+    text_and_table(&image, first, Unsigned(5), b"odd|even", visits(3, 3), true);
+    gives_text(&image, none, Unsigned(5), b"even|even", visits(3, 3));
+    let consulted = |checked, applied| Stopped { visits: visits(checked, applied), malformed: true };
+    assert_eq!(apply_in(&image, behind, LIMIT, Unsigned(5), 64).0, Err(Refusal::Formula(stopped(3, 2))));
+    assert_eq!(apply_in(&image, before, LIMIT, Unsigned(5), 64).0, Err(Refusal::Formula(consulted(3, 3))));
+    assert_eq!(apply_in(&image, second, LIMIT, Unsigned(5), 7).0, Err(Refusal::Room(Some(consulted(3, 3)))));
+    assert_eq!(apply_in(&image, odd_table, LIMIT, Unsigned(5), 2).0, Err(Refusal::Room(Some(consulted(1, 1)))));
+    assert_eq!(apply_in(&image, none, LIMIT, Unsigned(5), 8).0, Err(Refusal::Room(Some(stopped(3, 3)))));
+    is_unsound(&image, under_key, 1, Refusal::Limit(odd_table));
 }
 
 #[test]
@@ -135,8 +189,8 @@ fn bit_groups() {
     gives_text(&image, groups, Unsigned(6), b"Gear = Low|PTO", visits(2, 2));
     gives_text(&image, groups, Unsigned(0), b"PTO", visits(2, 2));
     assert!(apply_in(&image, groups, LIMIT, Unsigned(6), 14).0.is_ok());
-    assert_eq!(apply_in(&image, groups, LIMIT, Unsigned(6), 13).0, Err(Refusal::Room(Some(visits(2, 2)))));
-    assert_eq!(apply_in(&image, groups, LIMIT, Unsigned(6), 0).0, Err(Refusal::Room(Some(visits(2, 2)))));
+    assert_eq!(apply_in(&image, groups, LIMIT, Unsigned(6), 13).0, Err(Refusal::Room(Some(stopped(2, 2)))));
+    assert_eq!(apply_in(&image, groups, LIMIT, Unsigned(6), 0).0, Err(Refusal::Room(Some(stopped(2, 2)))));
 }
 
 #[test]
@@ -193,8 +247,8 @@ fn a_formula_keeps_its_visits() {
     let mut image = Image::new();
     let formula = image.block(3, &[], &[]);
     let groups = image.named(11, 0, &[formula, formula], &[3, 12]);
-    assert_eq!(apply_in(&image, formula, LIMIT, Float(5.0), 0).0, Err(Refusal::Formula(visits(1, 1))));
-    assert_eq!(apply_in(&image, groups, LIMIT, Unsigned(6), 64).0, Err(Refusal::Formula(visits(3, 2))));
+    assert_eq!(apply_in(&image, formula, LIMIT, Float(5.0), 0).0, Err(Refusal::Formula(stopped(1, 1))));
+    assert_eq!(apply_in(&image, groups, LIMIT, Unsigned(6), 64).0, Err(Refusal::Formula(stopped(3, 2))));
     answers(&image, formula, Text(b"no signal"), Answer::Unchanged);
 }
 
@@ -329,7 +383,7 @@ fn writing_refuses_room_and_count() {
 
 #[test]
 fn refusals_have_number_name_address_and_visits() {
-    let seen = visits(3, 2);
+    let (seen, odd) = (stopped(3, 2), Stopped { visits: visits(3, 2), malformed: true });
     let all = [
         (Refusal::Outside(9), "refused 1 Outside at 9", None),
         (Refusal::NotConversion(9), "refused 2 NotConversion at 9", None),
@@ -338,11 +392,13 @@ fn refusals_have_number_name_address_and_visits() {
         (Refusal::Deep(9), "refused 5 Deep at 9", None),
         (Refusal::Loop(0), "refused 6 Loop at 0", None),
         (Refusal::Formula(seen), "refused 7 Formula", Some(seen)),
-        (Refusal::Room(Some(seen)), "refused 8 Room", Some(seen)),
+        (Refusal::Room(Some(odd)), "refused 8 Room", Some(odd)),
         (Refusal::Count, "refused 9 Count", None),
     ];
-    for (number, (refusal, shown, visits)) in (1..).zip(all) {
-        assert_eq!((refusal.number(), refusal.to_string().as_str(), refusal.visits()), (number, shown, visits));
+    for (number, (refusal, shown, stopped)) in (1..).zip(all) {
+        assert_eq!((refusal.number(), refusal.to_string().as_str(), refusal.visits()), (number, shown, stopped.map(|s| s.visits)));
+        assert_eq!(refusal.malformed(), stopped.is_some_and(|s| s.malformed));
         assert_eq!(refusal.address().is_some(), number <= 6);
     }
+    assert_eq!((Refusal::Room(None).visits(), Refusal::Room(None).malformed()), (None, false));
 }

@@ -78,6 +78,34 @@ fn refusals() {
 }
 
 #[test]
+fn an_odd_range_table_speaks_up() {
+    prints("3688 unsigned 15", 0, "text slow\nchecked 1 applied 1, odd range table\n");
+    prints("3688 float nan", 0, "text slow\nchecked 1 applied 1, odd range table\n");
+    prints("3688 text slow", 0, "unchanged\nchecked 1 applied 1\n");
+    prints("3688 unsigned 15 --limit 0", 3, "refused 3 Limit at 3688\nchecked 0 applied 0\n");
+    let mut image = Image::new();
+    let (text, linear, formula) = (image.text(b"a, odd range table"), image.block(1, &[], &[0.0, 2.0]), image.block(3, &[], &[]));
+    let even = image.block(8, &[text], &[0.0, 9.0]);
+    let odd = image.block(8, &[linear], &[1.0]);
+    let stopped = image.block(8, &[formula], &[]);
+    let key = image.block(7, &[odd, even, stopped], &[3.0, 4.0, 5.0]);
+    let file = Temporary::new("odd", &image);
+    for (value, status, printed) in [
+        ("3", 0, "number 6\nchecked 6 applied 3, odd range table\n"),
+        ("4", 0, "text a, odd range table\nchecked 6 applied 2\n"),
+        ("5", 3, "refused 7 Formula\nchecked 6 applied 3, odd range table\n"),
+        ("6", 0, "unchanged\nchecked 6 applied 1\n"),
+    ] {
+        let ended = run(&[file.path(), &key.to_string(), "unsigned", value]);
+        assert_eq!((ended.status, ended.out.as_str()), (status, printed));
+    }
+    // Of many values, on the answer's own line, behind a tab, which no answer has.
+    let lines = run_with(&[file.path(), &key.to_string(), "unsigned", "-"], b"3\n4\n5\n6\n");
+    let printed = "number 6\todd range table\ntext a, odd range table\nrefused 7 Formula\todd range table\nunchanged\n";
+    assert_eq!((lines.status, lines.out.as_str()), (3, printed));
+}
+
+#[test]
 fn a_chain_too_deep() {
     let mut image = Image::new();
     let (root, last) = image.row(22, 1);
@@ -227,7 +255,7 @@ fn format_characters_are_escaped() {
         ('é', "é"),
     ] {
         let text = image.text(format!("a{character}b").as_bytes());
-        let root = image.named(8, text, &[text], &[]);
+        let root = image.named(8, text, &[text], &[0f64, 9.0].map(f64::to_bits));
         image.set_link(root, 1, text);
         image.set_link(root, 2, text);
         let file = Temporary::new("format", &image);

@@ -22,9 +22,9 @@ use Rattle.engine.proofs.+apply+bit_groups+part+pass_on+range_to_text+v
 use Rattle.engine.proofs.+apply+bit_groups+part+pass_on+range_to_text+value_to_text.Tie.{close}
 use Rattle.engine.proofs.+apply+bit_groups+part+pass_on+range_to_text+value_to_text.Proof.Shared.{μ-apply, μ-bit-groups, μ-part, μ-pass-on, μ-range-to-text, μ-value-to-text, apply-at, apply-below, bit-groups-at, part-at, pass-on-at, pass-on-below, range-to-text-at, value-to-text-at, apply-calls, bit-groups-calls, part-calls, range-to-text-calls}
 use Rattle.engine.proofs.+apply+bit_groups+part+pass_on+range_to_text+value_to_text.Proof.Apply.{apply-quiet-requires, apply-counted-requires, apply-returns, apply-sub-below, apply-step-at-requires, apply-enum-known-b, apply-value-to-text-requires, apply-counted-requires-2, apply-enum-known-b-2, apply-range-to-text-requires, apply-counted-requires-3, apply-enum-known-b-3, apply-bit-groups-requires, apply-counted-requires-4, apply-enum-known-p, apply-told-requires, apply-counted-requires-5, apply-same-length, apply-returns-2, apply-same-length-2, apply-returns-3, apply-same-length-3, apply-returns-4, apply-returns-5}
-use Rattle.engine.proofs.+apply+bit_groups+part+pass_on+range_to_text+value_to_text.Proof.BitGroups.{bit-groups-Inv-loop, bit-groups-μ-loop, bit-groups-group-count-requires, bit-groups-loop-holds, bit-groups-lead-at-requires, bit-groups-mask-at-requires, bit-groups-part-requires, bit-groups-add-visits-requires, bit-groups-enum-known-said, bit-groups-enum-told, bit-groups-same-length, bit-groups-returns, bit-groups-enum-told-2, bit-groups-same-length-2, bit-groups-returns-2, bit-groups-enum-told-3, bit-groups-enum-told-4, bit-groups-enum-told-5, bit-groups-enum-told-6, bit-groups-add-i, bit-groups-loop-less, bit-groups-loop-again, bit-groups-same-length-3, bit-groups-returns-3}
+use Rattle.engine.proofs.+apply+bit_groups+part+pass_on+range_to_text+value_to_text.Proof.BitGroups.{bit-groups-Inv-loop, bit-groups-μ-loop, bit-groups-group-count-requires, bit-groups-loop-holds, bit-groups-lead-at-requires, bit-groups-mask-at-requires, bit-groups-part-requires, bit-groups-add-visits-requires, bit-groups-either-requires, bit-groups-enum-known-said, bit-groups-enum-told, bit-groups-same-length, bit-groups-returns, bit-groups-enum-told-2, bit-groups-same-length-2, bit-groups-returns-2, bit-groups-enum-told-3, bit-groups-enum-told-4, bit-groups-enum-told-5, bit-groups-enum-told-6, bit-groups-add-i, bit-groups-loop-less, bit-groups-loop-again, bit-groups-same-length-3, bit-groups-returns-3}
 use Rattle.engine.proofs.+apply+bit_groups+part+pass_on+range_to_text+value_to_text.Proof.Part.{part-enum-known-lead, part-paste-bar-requires, part-paste-requires, part-quiet-requires, part-enum-known-lead-2, part-paste-label-requires, part-apply-requires, part-enum-known-said, part-paste-requires-2, part-enum-told, part-quiet-requires-2, part-enum-told-2, part-quiet-requires-3, part-same-length, part-returns, part-same-length-2, part-returns-2, part-same-length-3, part-returns-3, part-returns-4, part-returns-5}
-use Rattle.engine.proofs.+apply+bit_groups+part+pass_on+range_to_text+value_to_text.Proof.PassOn.{pass-on-enum-known-c, pass-on-apply-requires, pass-on-enum-known-c-2, pass-on-told-requires, pass-on-same-length, pass-on-returns, pass-on-returns-2, range-to-text-chosen-range-requires, range-to-text-pass-on-requires, range-to-text-same-length, range-to-text-returns, value-to-text-chosen-key-requires, value-to-text-pass-on-requires, value-to-text-same-length, value-to-text-returns}
+use Rattle.engine.proofs.+apply+bit_groups+part+pass_on+range_to_text+value_to_text.Proof.PassOn.{pass-on-enum-known-c, pass-on-apply-requires, pass-on-enum-known-c-2, pass-on-told-requires, pass-on-same-length, pass-on-returns, pass-on-returns-2, range-to-text-chosen-range-requires, range-to-text-pass-on-requires, range-to-text-noting-requires, range-to-text-same-length, range-to-text-returns, value-to-text-chosen-key-requires, value-to-text-pass-on-requires, value-to-text-same-length, value-to-text-returns}
 
 pub +apply+bit-groups+part+pass-on+range-to-text+value-to-text-spec : {M : Type 1} → statement M
 +apply+bit-groups+part+pass-on+range-to-text+value-to-text-spec =
@@ -73,6 +73,7 @@ pub +apply+bit-groups+part+pass-on+range-to-text+value-to-text-spec : {M : Type 
     (bit-groups-mask-at-requires t)
     (bit-groups-part-requires t)
     (bit-groups-add-visits-requires t)
+    (bit-groups-either-requires t)
     (bit-groups-enum-known-said t)
     (bit-groups-enum-told t)
     (bit-groups-same-length t)
@@ -129,6 +130,7 @@ pub +apply+bit-groups+part+pass-on+range-to-text+value-to-text-spec : {M : Type 
     range-to-text.Post
     (range-to-text-chosen-range-requires t)
     (range-to-text-pass-on-requires t)
+    (range-to-text-noting-requires t)
     (range-to-text-same-length t)
     (range-to-text-returns t))
     λ t. value-to-text-lts.spec

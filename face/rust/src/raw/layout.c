@@ -21,6 +21,7 @@ int main(void) {
     FIELD(mdf_applied, address);
     FIELD(mdf_applied, checked);
     FIELD(mdf_applied, applied);
+    FIELD(mdf_applied, malformed);
     END();
     BEGIN(mdf_shown);
     FIELD(mdf_shown, from_image);

@@ -17,7 +17,7 @@ macro_rules! line {
 
 fn lines_of_rust() -> String {
     line!("mdf_checked", Checked, refusal, visits, address)
-        + &line!("mdf_applied", Applied, refusal, kind, number, length, address, checked, applied)
+        + &line!("mdf_applied", Applied, refusal, kind, number, length, address, checked, applied, malformed)
         + &line!("mdf_shown", Shown, from_image, start, length)
         + &line!(
             "mdf_block",

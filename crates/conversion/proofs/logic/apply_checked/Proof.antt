@@ -34,7 +34,7 @@ returns c =
     let w = c .before .before .settle .result in
     settle (applied 21 (s .args .mode) (now (s .args .image)) (now (s .args .text)) (s .args .address) (s .args .value)) (s .args .n) (s .args .address)
     (visits-fit (s .args .mode) (now (s .args .image)) (now (s .args .text)) (s .args .address) (s .args .limit) (s .args .n) (s .args .value) (s .pre) (omega arith))
-    (now (s .args .out)) _ (x .result .visits) w (x .ensures .count)
+    (now (s .args .out)) _ (x .result .visits) (x .result .malformed) w (x .ensures .count) (x .ensures .flag)
     (answered-from (s .args .address) (applied 21 (s .args .mode) (now (s .args .image)) (now (s .args .text)) (s .args .address) (s .args .value) .says) (untouched (x .ensures .wrote)) (c .before .before .settle .ensures))
 
 pub apply-checked-spec : {M : Type 1} → statement M

@@ -1,12 +1,11 @@
 -- The answers of `engine::apply`. Assumes nothing.
-use Rattle.pieces.proofs.Answers.{told-as, quiet-did}
 use mathlib.Core.Path.{refl, subst}
 use denote.Ref.{now}
 use Rattle.steps.specs.Step.{StepIn}
 use Rattle.pieces.specs.Answer.{broken}
-use Rattle.pieces.proofs.Answers.{told-as, quiet-did}
+use Rattle.pieces.proofs.Answers.{told-as, quiet-did, counted-did}
 use Rattle.engine.specs.Apply.{applied}
-use Rattle.engine.proofs.Levels.{level, one-more}
+use Rattle.engine.proofs.Levels.{level}
 use Prim.Native.Nat.{ℕ}
 use borrow.Author.Needs.{needs}
 use native.Mathlib.Omega.{arith}
@@ -23,7 +22,7 @@ apply-counted-requires t c κs = search needs
 pub apply-returns : (t : ℕ) → apply-lts.Need-returns (apply-calls t) (apply-at t) apply.Post
 unfolding applied
 apply-returns t c = rw (c .before .before .if1 .taken)
-    (one-more {n = 0} {x = broken} (quiet-did broken _ _ _ (c .before .quiet .ensures .0) (c .before .quiet .ensures .1) refl) (c .counted .ensures .0) (c .counted .ensures .1))
+    (counted-did (quiet-did broken _ _ _ (c .before .quiet .ensures) refl refl) (c .counted .ensures))
 
 pub apply-sub-below : (t : ℕ) → apply-lts.Need-sub-below (apply-calls t) (apply-at t) apply.Post
 apply-sub-below t c = search needs
@@ -74,24 +73,24 @@ apply-same-length t c = search needs
 
 pub apply-returns-2 : (t : ℕ) → apply-lts.Need-returns-2 (apply-calls t) (apply-at t) apply.Post
 apply-returns-2 t c = rw (level _ _ _ _ _ _ (c .before .before .before .before .before .before .before .before .before .if1 .left), ← (c .before .before .before .before .before .before .before .before .step-at .ensures .0), c .before .before .before .before .before .before .b .given .1)
-    (one-more (c .before .before .before .value-to-text .ensures) (c .counted2 .ensures .0) (c .counted2 .ensures .1))
+    (counted-did (c .before .before .before .value-to-text .ensures) (c .counted2 .ensures))
 
 pub apply-same-length-2 : (t : ℕ) → apply-lts.Need-same-length-2 (apply-calls t) (apply-at t) apply.Post
 apply-same-length-2 t c = search needs
 
 pub apply-returns-3 : (t : ℕ) → apply-lts.Need-returns-3 (apply-calls t) (apply-at t) apply.Post
 apply-returns-3 t c = rw (level _ _ _ _ _ _ (c .before .before .before .before .before .before .before .before .before .if1 .left), ← (c .before .before .before .before .before .before .before .before .step-at .ensures .0), c .before .before .before .before .before .before .b2 .given .1)
-    (one-more (c .before .before .before .range-to-text .ensures) (c .counted3 .ensures .0) (c .counted3 .ensures .1))
+    (counted-did (c .before .before .before .range-to-text .ensures) (c .counted3 .ensures))
 
 pub apply-same-length-3 : (t : ℕ) → apply-lts.Need-same-length-3 (apply-calls t) (apply-at t) apply.Post
 apply-same-length-3 t c = search needs
 
 pub apply-returns-4 : (t : ℕ) → apply-lts.Need-returns-4 (apply-calls t) (apply-at t) apply.Post
 apply-returns-4 t c = rw (level _ _ _ _ _ _ (c .before .before .before .before .before .before .before .before .before .if1 .left), ← (c .before .before .before .before .before .before .before .before .step-at .ensures .0), c .before .before .before .before .before .before .b3 .given .1)
-    (one-more (c .before .before .before .bit-groups .ensures) (c .counted4 .ensures .0) (c .counted4 .ensures .1))
+    (counted-did (c .before .before .before .bit-groups .ensures) (c .counted4 .ensures))
 
 pub apply-returns-5 : (t : ℕ) → apply-lts.Need-returns-5 (apply-calls t) (apply-at t) apply.Post
 apply-returns-5 t c = let img = now (c .before .before .before .before .before .before .before .before .before .before .args .image) in
     let lies = subst (StepIn img) (c .before .before .before .p .given .1) (c .before .before .before .before .before .step-at .ensures .1) in
     rw (level _ _ _ _ _ _ (c .before .before .before .before .before .before .if1 .left), ← (c .before .before .before .before .before .step-at .ensures .0), c .before .before .before .p .given .1)
-    (one-more (told-as img (now (c .before .before .before .before .before .before .before .before .before .before .args .out)) (c .before .before .before .before .before .before .before .before .before .before .args .pos) (c .before .before .before .before .before .before .before .before .before .before .args .lim) (c .before .before .before .p .given .0 .0) lies (c .before .told .ensures)) (c .counted5 .ensures .0) (c .counted5 .ensures .1))
+    (counted-did (told-as img (now (c .before .before .before .before .before .before .before .before .before .before .args .out)) (c .before .before .before .before .before .before .before .before .before .before .args .pos) (c .before .before .before .before .before .before .before .before .before .before .args .lim) (c .before .before .before .p .given .0 .0) lies (c .before .told .ensures)) (c .counted5 .ensures))

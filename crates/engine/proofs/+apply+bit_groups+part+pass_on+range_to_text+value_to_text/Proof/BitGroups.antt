@@ -20,11 +20,11 @@ use Rattle.engine.proofs.+apply+bit_groups+part+pass_on+range_to_text+v
 use Rattle.engine.proofs.+apply+bit_groups+part+pass_on+range_to_text+value_to_text.Proof.Shared.{bit-groups-at, bit-groups-calls}
 
 abbrev pub bit-groups-Inv-loop : bit-groups-lts.InvT-loop
-bit-groups-Inv-loop mode image b bits text left out₀ pos lim n i₀ p₀ started₀ visits₀ out i p started visits =
-    (i ≤ n) × Sofar (groups (applied left mode image text) image b bits i) out₀ out pos lim p started visits
+bit-groups-Inv-loop mode image b bits text left out₀ pos lim n i₀ p₀ started₀ visits₀ malformed₀ out i p started visits malformed =
+    (i ≤ n) × Sofar (groups (applied left mode image text) image b bits i) out₀ out pos lim p started visits malformed
 
 abbrev pub bit-groups-μ-loop : bit-groups-lts.MeasureT-loop
-bit-groups-μ-loop mode image b bits text left out₀ pos lim n i₀ p₀ started₀ visits₀ out i p started visits =
+bit-groups-μ-loop mode image b bits text left out₀ pos lim n i₀ p₀ started₀ visits₀ malformed₀ out i p started visits malformed =
     n - i
 
 pub bit-groups-group-count-requires : (t : ℕ) → bit-groups-lts.Need-group-count-requires (bit-groups-calls t) (bit-groups-at t) bit-groups.Post bit-groups-Inv-loop bit-groups-μ-loop
@@ -46,6 +46,9 @@ bit-groups-part-requires t c κs = let inner = subst (LeadIn (now (c .before .be
 pub bit-groups-add-visits-requires : (t : ℕ) → bit-groups-lts.Need-add-visits-requires (bit-groups-calls t) (bit-groups-at t) bit-groups.Post bit-groups-Inv-loop bit-groups-μ-loop
 bit-groups-add-visits-requires t c κs = search needs
 
+pub bit-groups-either-requires : (t : ℕ) → bit-groups-lts.Need-either-requires (bit-groups-calls t) (bit-groups-at t) bit-groups.Post bit-groups-Inv-loop bit-groups-μ-loop
+bit-groups-either-requires t c κs = search needs
+
 pub bit-groups-enum-known-said : (t : ℕ) → bit-groups-lts.Need-enum-known-said (bit-groups-calls t) (bit-groups-at t) bit-groups.Post bit-groups-Inv-loop bit-groups-μ-loop
 bit-groups-enum-known-said t c = search needs
 
@@ -53,21 +56,21 @@ pub bit-groups-enum-told : (t : ℕ) → bit-groups-lts.Need-enum-told (bit-grou
 bit-groups-enum-told t c = search needs
 
 -- what one turn gives, by the part's word
-pub bit-groups-turn : (t : ℕ) (c : bit-groups-lts.After-add-visits (bit-groups-calls t) (bit-groups-at t) bit-groups.Post bit-groups-Inv-loop bit-groups-μ-loop) (x : Said) → c .before .before .before .part .result .said ≡ x
-    → let a = c .before .before .before .before .before .before .before .before .before .before .before .before .before .args in
-    let l = c .before .before .before .before .before .before .before .before .loop in
-    Grown x (groups (applied (a .left) (a .mode) (a .image .now) (a .text .now)) (a .image .now) (a .b) (a .bits) (l .i + 1)) (a .out .now) (c .before .before .before .part .last .1 .1 .1 .1 .1 .1 .1 .0) (a .pos) (a .lim) (l .p) (l .started) (c .add-visits .result)
+pub bit-groups-turn : (t : ℕ) (c : bit-groups-lts.After-either (bit-groups-calls t) (bit-groups-at t) bit-groups.Post bit-groups-Inv-loop bit-groups-μ-loop) (x : Said) → c .before .before .before .before .part .result .said ≡ x
+    → let a = c .before .before .before .before .before .before .before .before .before .before .before .before .before .before .args in
+    let l = c .before .before .before .before .before .before .before .before .before .loop in
+    Grown x (groups (applied (a .left) (a .mode) (a .image .now) (a .text .now)) (a .image .now) (a .b) (a .bits) (l .i + 1)) (a .out .now) (c .before .before .before .before .part .last .1 .1 .1 .1 .1 .1 .1 .0) (a .pos) (a .lim) (l .p) (l .started) (c .before .add-visits .result) (c .either .result)
 bit-groups-turn t c x told =
-    let a = c .before .before .before .before .before .before .before .before .before .before .before .before .before .args in
-    let l = c .before .before .before .before .before .before .before .before .loop in
-    turn (applied (a .left) (a .mode) (a .image .now) (a .text .now)) (a .image .now) (a .b) (a .bits) (l .i) (c .add-visits .result) (c .before .before .before .before .before .mask-at .result) (c .before .before .before .before .before .before .lead-at .result) x
-    (omega arith) (l .inv .1) (c .before .before .before .before .before .before .lead-at .ensures) (c .before .before .before .before .before .mask-at .ensures) (c .before .before .before .part .ensures .0) (c .before .before .before .part .ensures .1) (c .add-visits .ensures) told
+    let a = c .before .before .before .before .before .before .before .before .before .before .before .before .before .before .args in
+    let l = c .before .before .before .before .before .before .before .before .before .loop in
+    turn (applied (a .left) (a .mode) (a .image .now) (a .text .now)) (a .image .now) (a .b) (a .bits) (l .i) (c .before .add-visits .result) (c .before .before .before .before .before .before .mask-at .result) (c .before .before .before .before .before .before .before .lead-at .result) x (l .malformed) (c .either .result)
+    (c .before .before .before .before .before .before .before .before .before .before .before .before .before .before .pre .1 .0) (l .inv .1) (c .before .before .before .before .before .before .before .lead-at .ensures) (c .before .before .before .before .before .before .mask-at .ensures) (c .before .before .before .before .part .ensures .0) (c .before .before .before .before .part .ensures .1) (c .before .add-visits .ensures) (c .either .ensures) told
 
 pub bit-groups-same-length : (t : ℕ) → bit-groups-lts.Need-same-length (bit-groups-calls t) (bit-groups-at t) bit-groups.Post bit-groups-Inv-loop bit-groups-μ-loop
 bit-groups-same-length t c = bit-groups-turn t (c .before .before) said.Formula (c .enum-told .given .1) .wrote .same
 
 pub bit-groups-returns : (t : ℕ) → bit-groups-lts.Need-returns (bit-groups-calls t) (bit-groups-at t) bit-groups.Post bit-groups-Inv-loop bit-groups-μ-loop
-bit-groups-returns t c = stop _ _ _ _ (c .before .before .before .before .before .before .before .before .before .before .loop .i) (c .before .before .before .before .before .before .before .before .before .before .before .group-count .result) formula (c .before .before .before .before .before .before .before .before .before .loop-test .taken) (c .before .before .before .before .before .before .before .before .before .before .before .group-count .ensures) (bit-groups-turn t (c .before .before) said.Formula (c .enum-told .given .1)) refl refl refl
+bit-groups-returns t c = stop _ _ _ _ (c .before .before .before .before .before .before .before .before .before .before .before .loop .i) (c .before .before .before .before .before .before .before .before .before .before .before .before .group-count .result) formula (c .before .before .before .before .before .before .before .before .before .before .loop-test .taken) (c .before .before .before .before .before .before .before .before .before .before .before .before .group-count .ensures) (bit-groups-turn t (c .before .before) said.Formula (c .enum-told .given .1)) refl refl refl refl
 
 pub bit-groups-enum-told-2 : (t : ℕ) → bit-groups-lts.Need-enum-told-2 (bit-groups-calls t) (bit-groups-at t) bit-groups.Post bit-groups-Inv-loop bit-groups-μ-loop
 bit-groups-enum-told-2 t c = search needs
@@ -76,7 +79,7 @@ pub bit-groups-same-length-2 : (t : ℕ) → bit-groups-lts.Need-same-length-2 (
 bit-groups-same-length-2 t c = bit-groups-turn t (c .before .before) said.Broken (c .enum-told2 .given .1) .wrote .same
 
 pub bit-groups-returns-2 : (t : ℕ) → bit-groups-lts.Need-returns-2 (bit-groups-calls t) (bit-groups-at t) bit-groups.Post bit-groups-Inv-loop bit-groups-μ-loop
-bit-groups-returns-2 t c = stop _ _ _ _ (c .before .before .before .before .before .before .before .before .before .before .loop .i) (c .before .before .before .before .before .before .before .before .before .before .before .group-count .result) broken (c .before .before .before .before .before .before .before .before .before .loop-test .taken) (c .before .before .before .before .before .before .before .before .before .before .before .group-count .ensures) (bit-groups-turn t (c .before .before) said.Broken (c .enum-told2 .given .1)) refl refl refl
+bit-groups-returns-2 t c = stop _ _ _ _ (c .before .before .before .before .before .before .before .before .before .before .before .loop .i) (c .before .before .before .before .before .before .before .before .before .before .before .before .group-count .result) broken (c .before .before .before .before .before .before .before .before .before .before .loop-test .taken) (c .before .before .before .before .before .before .before .before .before .before .before .before .group-count .ensures) (bit-groups-turn t (c .before .before) said.Broken (c .enum-told2 .given .1)) refl refl refl refl
 
 pub bit-groups-enum-told-3 : (t : ℕ) → bit-groups-lts.Need-enum-told-3 (bit-groups-calls t) (bit-groups-at t) bit-groups.Post bit-groups-Inv-loop bit-groups-μ-loop
 bit-groups-enum-told-3 t c = search needs
@@ -104,7 +107,7 @@ bit-groups-loop-again t c = (
       (⊎-elim
       (λ w. rw (w .2, w .3) (bit-groups-turn t (c .before) (said.Number _) (w .1 .given .1)))
       (⊎-elim
-      (λ w. absurd (subst NoWords (w .1 .given .1) (c .before .before .before .before .part .ensures .1)))
+      (λ w. absurd (subst NoWords (w .1 .given .1) (c .before .before .before .before .before .part .ensures .1)))
       (⊎-elim
       (λ w. rw (w .2, w .3) (bit-groups-turn t (c .before) said.Unchanged (w .1 .given .1)))
       (λ w. rw (w .2, w .3) (bit-groups-turn t (c .before) said.Unknown (w .1 .given .1))))))

@@ -1,5 +1,6 @@
 -- The answers of `engine::part`. Assumes nothing.
-use Rattle.pieces.proofs.Answers.{put-did, quiet-did, pasted-did, did-in, no-words}
+use Rattle.pieces.specs.declared.said.Outcome.{Outcome}
+use Rattle.pieces.proofs.Answers.{put-quiet, quiet-did, pasted-did, did-in, no-words}
 use mathlib.Core.Path.{refl, sym, subst}
 use denote.Ref.{now}
 use Rattle.leads.specs.Lead.{LeadIn}
@@ -61,7 +62,7 @@ part-same-length t c = search needs
 
 pub part-returns : (t : ℕ) → part-lts.Need-returns (part-calls t) (part-at t) part.Post
 part-returns t c = rw (c .before .before .before .before .before .before .before .before .before .before .lead .given .1)
-    (put-did (c .quiet .ensures .0) (c .quiet .ensures .1) (then (omega arith) (c .before .before .before .before .before .before .before .paste-bar .ensures) (c .before .before .before .paste .ensures)), subst NoWords (sym (c .quiet .ensures .0)) tt)
+    (put-quiet (c .quiet .ensures) (then (omega arith) (c .before .before .before .before .before .before .before .paste-bar .ensures) (c .before .before .before .paste .ensures)), subst (λ (r : Outcome). NoWords (r .said)) (sym (c .quiet .ensures)) tt)
 
 pub part-same-length-2 : (t : ℕ) → part-lts.Need-same-length-2 (part-calls t) (part-at t) part.Post
 part-same-length-2 t c = search needs
@@ -69,7 +70,7 @@ part-same-length-2 t c = search needs
 pub part-returns-2 : (t : ℕ) → part-lts.Need-returns-2 (part-calls t) (part-at t) part.Post
 part-returns-2 t c = rw (c .before .before .before .before .before .before .before .before .before .before .before .before .before .before .before .before .lead2 .given .1) (
   labelled-did (bar (c .before .before .before .before .before .before .before .before .before .before .before .before .before .before .before .before .before .before .before .before .before .args .started)) _ _ (c .before .before .before .before .before .before .before .before .before .before .before .before .before .before .before .before .before .before .before .before .before .pre .1 .0) tt (c .before .before .before .before .before .before .before .before .before .before .before .before .before .paste-label .ensures)
-      (pasted-did _ _ _ (omega (arith, c .before .before .before .before .before .before .before .before .before .before .before .before .before .before .before .before .before .before .before .before .before .pre .1 .0, c .before .before .before .before .before .before .before .before .before .before .before .before .before .paste-label .ensures .wrote .same)) (omega (arith, c .before .before .before .before .before .before .before .before .before .before .before .before .before .paste-label .ensures .wrote .same, c .before .before .before .before .before .before .before .before .before .before .before .before .before .paste-label .ensures .end)) (c .before .before .before .before .before .before .before .before .before .apply .ensures) (c .before .before .before .before .before .said .given .1) (c .before .before .paste2 .ensures) refl refl),
+      (pasted-did _ _ _ (omega (arith, c .before .before .before .before .before .before .before .before .before .before .before .before .before .before .before .before .before .before .before .before .before .pre .1 .0, c .before .before .before .before .before .before .before .before .before .before .before .before .before .paste-label .ensures .wrote .same)) (omega (arith, c .before .before .before .before .before .before .before .before .before .before .before .before .before .paste-label .ensures .wrote .same, c .before .before .before .before .before .before .before .before .before .before .before .before .before .paste-label .ensures .end)) (c .before .before .before .before .before .before .before .before .before .apply .ensures) (c .before .before .before .before .before .said .given .1) (c .before .before .paste2 .ensures) refl refl refl),
   tt,
 )
 
@@ -81,7 +82,7 @@ part-returns-3 t c = let plain = no-words (c .before .before .before .apply .res
     rw (c .before .before .before .before .before .before .before .before .before .before .lead2 .given .1) (labelled-did (bar (c .before .before .before .before .before .before .before .before .before .before .before .before .before .before .before .args .started)) _ _ (omega arith) plain (c .before .before .before .before .before .before .before .paste-label .ensures) (c .before .before .before .apply .ensures), plain)
 
 pub part-returns-4 : (t : ℕ) → part-lts.Need-returns-4 (part-calls t) (part-at t) part.Post
-part-returns-4 t c = rw (c .before .enum-told .given .1) (quiet-did unchanged _ _ _ (c .quiet2 .ensures .0) (c .quiet2 .ensures .1) refl, subst NoWords (sym (c .quiet2 .ensures .0)) tt)
+part-returns-4 t c = rw (c .before .enum-told .given .1) (quiet-did unchanged _ _ _ (c .quiet2 .ensures) refl refl, subst (λ (r : Outcome). NoWords (r .said)) (sym (c .quiet2 .ensures)) tt)
 
 pub part-returns-5 : (t : ℕ) → part-lts.Need-returns-5 (part-calls t) (part-at t) part.Post
-part-returns-5 t c = rw (c .before .enum-told2 .given .1) (quiet-did unchanged _ _ _ (c .quiet3 .ensures .0) (c .quiet3 .ensures .1) refl, subst NoWords (sym (c .quiet3 .ensures .0)) tt)
+part-returns-5 t c = rw (c .before .enum-told2 .given .1) (quiet-did unchanged _ _ _ (c .quiet3 .ensures) refl refl, subst (λ (r : Outcome). NoWords (r .said)) (sym (c .quiet3 .ensures)) tt)

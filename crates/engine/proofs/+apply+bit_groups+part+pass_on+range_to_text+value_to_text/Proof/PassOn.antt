@@ -1,9 +1,8 @@
 -- The answers of `engine::pass_on`, `engine::value_to_text` and `engine::range_to_text`. Assumes nothing.
-use Rattle.pieces.proofs.Answers.{told-as}
 use mathlib.Core.Path.{subst}
 use denote.Ref.{now}
 use Rattle.steps.specs.Choice.{ChoiceIn}
-use Rattle.pieces.proofs.Answers.{told-as}
+use Rattle.pieces.proofs.Answers.{told-as, noted-did}
 use Prim.Native.Nat.{ℕ}
 use borrow.Author.Needs.{needs}
 use native.Mathlib.Omega.{arith}
@@ -45,11 +44,15 @@ range-to-text-chosen-range-requires t c κs = search needs
 pub range-to-text-pass-on-requires : (t : ℕ) → range-to-text-lts.Need-pass-on-requires (range-to-text-calls t) (range-to-text-at t) range-to-text.Post
 range-to-text-pass-on-requires t c κs = search needs
 
+pub range-to-text-noting-requires : (t : ℕ) → range-to-text-lts.Need-noting-requires (range-to-text-calls t) (range-to-text-at t) range-to-text.Post
+range-to-text-noting-requires t c κs = search needs
+
 pub range-to-text-same-length : (t : ℕ) → range-to-text-lts.Need-same-length (range-to-text-calls t) (range-to-text-at t) range-to-text.Post
 range-to-text-same-length t c = search needs
 
 pub range-to-text-returns : (t : ℕ) → range-to-text-lts.Need-returns (range-to-text-calls t) (range-to-text-at t) range-to-text.Post
-range-to-text-returns t c = rw (← (c .before .before .before .before .chosen-range .ensures .0)) (c .before .before .pass-on .ensures)
+range-to-text-returns t c = rw (← (c .before .before .before .before .before .chosen-range .ensures .0), ← (c .before .before .before .before .before .chosen-range .ensures .1))
+    (noted-did (c .before .before .before .before .before .chosen-range .result .malformed) (c .before .before .before .pass-on .ensures) (c .noting .ensures))
 
 pub value-to-text-chosen-key-requires : (t : ℕ) → value-to-text-lts.Need-chosen-key-requires (value-to-text-calls t) (value-to-text-at t) value-to-text.Post
 value-to-text-chosen-key-requires t c κs = search needs

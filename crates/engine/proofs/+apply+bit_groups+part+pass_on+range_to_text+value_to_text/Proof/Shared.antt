@@ -28,7 +28,9 @@ use Rattle.pieces.proofs.label.paste_label.Reads as paste-label-reads
 use Rattle.pieces.proofs.paste.add_visits.Reads as add-visits-reads
 use Rattle.pieces.proofs.paste.paste.Reads as paste-reads
 use Rattle.pieces.proofs.said.Outcome.counted.Reads as counted-reads
+use Rattle.pieces.proofs.said.Outcome.noting.Reads as noting-reads
 use Rattle.pieces.proofs.said.Outcome.quiet.Reads as quiet-reads
+use Rattle.pieces.proofs.said.either.Reads as either-reads
 use Rattle.pieces.proofs.said.told.Reads as told-reads
 use Rattle.steps.proofs.choice.chosen_key.Reads as chosen-key-reads
 use Rattle.steps.proofs.choice.chosen_range.Reads as chosen-range-reads
@@ -108,7 +110,7 @@ apply-calls t =
 
 abbrev pub bit-groups-calls : ℕ → bit-groups-lts.Claims
 bit-groups-calls t =
-    (group-count-reads.Asked, group-count-reads.Learnt, lead-at-reads.Asked, lead-at-reads.Learnt, mask-at-reads.Asked, mask-at-reads.Learnt, part-below t, part.Post, add-visits-reads.Asked, add-visits-reads.Learnt)
+    (group-count-reads.Asked, group-count-reads.Learnt, lead-at-reads.Asked, lead-at-reads.Learnt, mask-at-reads.Asked, mask-at-reads.Learnt, part-below t, part.Post, add-visits-reads.Asked, add-visits-reads.Learnt, either-reads.Asked, either-reads.Learnt)
 
 abbrev pub part-calls : ℕ → part-lts.Claims
 part-calls t =
@@ -120,7 +122,7 @@ pass-on-calls t =
 
 abbrev pub range-to-text-calls : ℕ → range-to-text-lts.Claims
 range-to-text-calls t =
-    (chosen-range-reads.Asked, chosen-range-reads.Learnt, pass-on-below t, pass-on.Post)
+    (chosen-range-reads.Asked, chosen-range-reads.Learnt, pass-on-below t, pass-on.Post, noting-reads.Asked, noting-reads.Learnt)
 
 abbrev pub value-to-text-calls : ℕ → value-to-text-lts.Claims
 value-to-text-calls t =

@@ -24,8 +24,8 @@ enum-known-answer-3 c = search needs
 number-requires : tie.Need-number-requires
 number-requires c κs = search needs
 
-cast-t10 : tie.Need-cast-t10
-cast-t10 c = search needs
+cast-t11 : tie.Need-cast-t11
+cast-t11 c = search needs
 
 address-requires : tie.Need-address-requires
 address-requires c κs = search needs
@@ -42,7 +42,7 @@ returns-2 c = rw (c .before .answer2 .given .1)
 returns-3 : tie.Need-returns-3
 returns-3 c =
     let s = c .before .before in
-    ap (λ (x : Answer). answerFace x (s .args .checked) (s .args .applied)) (sym (c .enum-told .given .1))
+    ap (λ (x : Answer). answerFace x (s .args .checked) (s .args .applied) (s .args .malformed)) (sym (c .enum-told .given .1))
 
 returns-4 : tie.Need-returns-4
 returns-4 c = rw (c .enum-told2 .given .1)
@@ -60,7 +60,7 @@ answer-face-spec =
     enum-told-2
     enum-known-answer-3
     number-requires
-    cast-t10
+    cast-t11
     address-requires
     address-or-requires
     returns

@@ -8,40 +8,34 @@ use denote.Ref.{now}
 use Rattle.words.specs.Words.{valueAt}
 use Rattle.rules.specs.Values.{values}
 use Rattle.rules.specs.Table.{holds}
-use Rattle.rules.specs.Search.{firstRange, rangeIndex}
-use Rattle.rules.proofs.Steps.{range-none, range-hit, range-miss, range-odd, range-even}
+use Rattle.rules.specs.Search.{firstRange}
+use Rattle.rules.proofs.Steps.{range-none, range-hit, range-miss}
 use Rattle.rules.proofs.search.range_index.Statement.{statement}
 use Rattle.rules.proofs.search.range_index.Tie as tie
 
 abbrev Inv-loop : tie.InvT-loop
-Inv-loop image p n whole x pairs i₀ at₀ i at = (at ≡ p + i * 16) × ((i ≤ pairs) × (rangeIndex whole (values image p n) x ≡ i + firstRange whole (values image at (n - i * 2)) x))
+Inv-loop image p n whole x pairs i₀ at₀ i at = (at ≡ p + i * 16) × ((i ≤ pairs) × (firstRange whole (values image p n) x ≡ i + firstRange whole (values image at (n - i * 2)) x))
 
 abbrev μ-loop : tie.MeasureT-loop
 μ-loop image p n whole x pairs i₀ at₀ i at = pairs - i
 
-returns : tie.Need-returns Inv-loop μ-loop
-returns c =
-    let a = c .before .before .args in
-    sym (range-odd (now (a .image)) (a .whole) (a .x) (a .p) (a .n) (c .if1 .taken))
-
 loop-holds : tie.Need-loop-holds Inv-loop μ-loop
 loop-holds c =
-    let a = c .before .before .args in
-    let img = now (a .image) in
+    let a = c .before .args in
     let e : a .n - 0 * 2 ≡ a .n = omega arith in
-    let r : rangeIndex (a .whole) (values img (a .p) (a .n)) (a .x) ≡ firstRange (a .whole) (values img (a .p) (a .n - 0 * 2)) (a .x) =
-    range-even img (a .whole) (a .x) (a .p) (a .n) (c .if1 .left) ∙ ap (λ (k : ℕ). firstRange (a .whole) (values img (a .p) k) (a .x)) (sym e) in
+    let r : firstRange (a .whole) (values (now (a .image)) (a .p) (a .n)) (a .x) ≡ firstRange (a .whole) (values (now (a .image)) (a .p) (a .n - 0 * 2)) (a .x) =
+    ap (λ (k : ℕ). firstRange (a .whole) (values (now (a .image)) (a .p) k) (a .x)) (sym e) in
     (omega arith, (omega arith, omega arith))
 
 is-held-at-requires : tie.Need-is-held-at-requires Inv-loop μ-loop
 is-held-at-requires c κs = search needs
 
-returns-2 : tie.Need-returns-2 Inv-loop μ-loop
-returns-2 c =
+returns : tie.Need-returns Inv-loop μ-loop
+returns c =
     let l = c .before .before .before in
-    let a = l .before .before .before .args in
+    let a = l .before .before .args in
     let t : holds (a .whole) (valueAt (now (a .image)) (l .loop .at)) (valueAt (now (a .image)) (l .loop .at + 8)) (a .x) ≡ true =
-    sym (c .before .is-held-at .ensures) ∙ c .if2 .taken in
+    sym (c .before .is-held-at .ensures) ∙ c .if1 .taken in
     let f = range-hit (now (a .image)) (a .whole) (a .x) (l .loop .at) (a .n - l .loop .i * 2) (omega arith) t in
     omega arith
 
@@ -57,17 +51,17 @@ loop-less c = search needs
 loop-again : tie.Need-loop-again Inv-loop μ-loop
 loop-again c =
     let l = c .before .before .before in
-    let a = l .before .before .before .args in
+    let a = l .before .before .args in
     let t : holds (a .whole) (valueAt (now (a .image)) (l .loop .at)) (valueAt (now (a .image)) (l .loop .at + 8)) (a .x) ≡ false =
-    sym (c .before .is-held-at .ensures) ∙ c .if2 .left in
+    sym (c .before .is-held-at .ensures) ∙ c .if1 .left in
     let rest : a .n - l .loop .i * 2 - 2 ≡ a .n - (l .loop .i + 1) * 2 = omega arith in
     let f = range-miss (now (a .image)) (a .whole) (a .x) (l .loop .at) (a .n - l .loop .i * 2) (a .n - (l .loop .i + 1) * 2) (omega arith) rest t in
     (omega arith, (omega arith, omega arith))
 
-returns-3 : tie.Need-returns-3 Inv-loop μ-loop
-returns-3 c =
+returns-2 : tie.Need-returns-2 Inv-loop μ-loop
+returns-2 c =
     let l = c .before in
-    let a = l .before .before .before .args in
+    let a = l .before .before .args in
     let f = range-none (now (a .image)) (a .whole) (a .x) (l .loop .at) (a .n - l .loop .i * 2) (omega arith) in
     omega arith
 
@@ -77,12 +71,11 @@ range-index-spec =
     (tie.spec
     Inv-loop
     μ-loop
-    returns
     loop-holds
     is-held-at-requires
-    returns-2
+    returns
     add-at
     add-i
     loop-less
     loop-again
-    returns-3)
+    returns-2)

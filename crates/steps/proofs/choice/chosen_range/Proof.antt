@@ -3,9 +3,9 @@ use mathlib.Core.Path.{_≡_, sym, ap, _∙_}
 use mathlib.Core.Bool.{true}
 use denote.Ref.{now}
 use Rattle.rules.specs.Values.{values}
-use Rattle.rules.specs.Search.{rangeSearch}
+use Rattle.rules.specs.Search.{isMalformed, rangeSearch}
 use Rattle.rules.specs.declared.search.Searched.{Searched}
-use Rattle.steps.specs.Choice.{byReference, chosenRange}
+use Rattle.steps.specs.Choice.{byReference, chosenRange, malformedRange}
 use borrow.Author.Needs.{needs}
 use Rattle.steps.proofs.choice.chosen_range.Statement.{statement}
 use Rattle.steps.proofs.choice.chosen_range.Tie as tie
@@ -25,26 +25,32 @@ search-range-requires c κs = search needs
 follow-requires : tie.Need-follow-requires
 follow-requires c κs = search needs
 
+is-malformed-requires : tie.Need-is-malformed-requires
+is-malformed-requires c κs = search needs
+
 enum-told : tie.Need-enum-told
 enum-told c = search needs
 
 returns : tie.Need-returns
 returns c =
-    let s = c .before .before .before .before .before .before .before .before .args in
+    let s = c .before .before .before .before .before .before .before .before .before .args in
     let img = now (s .image) in
-    let taken = c .before .before .before .before .x .given .0 in
-    let found : c .before .search-range .result ≡ rangeSearch (taken .1 .0) (values img (s .b .firstval) (s .b .valcount)) (taken .0) =
-    c .before .search-range .ensures in (
-      c .follow .ensures .0
+    let taken = c .before .before .before .before .before .x .given .0 in
+    let took = sym (c .before .before .before .before .before .x .given .1) ∙ c .before .before .before .before .before .before .before .take .ensures in
+    let found : c .before .before .search-range .result ≡ rangeSearch (taken .1 .0) (values img (s .b .firstval) (s .b .valcount)) (taken .0) =
+    c .before .before .search-range .ensures in (
+      c .before .follow .ensures .0
           ∙ ap (λ (q : Searched). byReference img (s .b) q true) found
-          ∙ ap (chosenRange img (s .b)) (sym (c .before .before .before .before .x .given .1) ∙ c .before .before .before .before .before .before .take .ensures),
-      c .follow .ensures .1,
+          ∙ ap (chosenRange img (s .b)) took,
+      c .is-malformed .ensures ∙ ap isMalformed found ∙ ap (malformedRange img (s .b)) took,
+      c .before .follow .ensures .1,
     )
 
 returns-2 : tie.Need-returns-2
 returns-2 c =
     let s = c .before .before .before .before .args in
-    (ap (chosenRange (now (s .image)) (s .b)) (sym (c .enum-told .given .1) ∙ c .before .before .take .ensures), tt)
+    let took = sym (c .enum-told .given .1) ∙ c .before .before .take .ensures in
+    (ap (chosenRange (now (s .image)) (s .b)) took, ap (malformedRange (now (s .image)) (s .b)) took, tt)
 
 pub chosen-range-spec : {M : Type 1} → statement M
 chosen-range-spec =
@@ -55,6 +61,7 @@ chosen-range-spec =
     cast-search-range
     search-range-requires
     follow-requires
+    is-malformed-requires
     enum-told
     returns
     returns-2)

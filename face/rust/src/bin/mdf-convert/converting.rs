@@ -47,21 +47,25 @@ impl<'a> Converter<'a> {
         }
     }
 
-    /// Prints the answer for one value, and on a second line the visits. Answers whether nothing was refused.
+    /// Prints the answer for one value, and on a second line the visits and whether a malformed table was consulted. Answers whether nothing was
+    /// refused.
     pub fn convert_one(mut self, value: Value<'_>, out: &mut impl Write) -> Result<bool, Stop> {
         let outcome = self.convert(value);
-        writeln!(out, "{}\n{}", self.shown(value, &outcome), visits(&outcome))?;
+        let odd = if is_odd(&outcome) { ", odd range table" } else { "" };
+        writeln!(out, "{}\n{}{odd}", self.shown(value, &outcome), visits(&outcome))?;
         Ok(outcome.is_ok())
     }
 
-    /// Prints the answer for each line of the input, up to a line that is no value. Answers whether nothing was refused.
+    /// Prints the answer for each line of the input, up to a line that is no value, and behind a tab whether a malformed table was consulted: no answer
+    /// has a tab of its own. Answers whether nothing was refused.
     pub fn convert_lines(mut self, kind: Kind, input: impl Read, out: &mut impl Write) -> Result<bool, Stop> {
         let (mut input, mut all_answered, mut count) = (BufReader::new(input), true, 0u64);
         while let Some(bytes) = next_line(&mut input, out)? {
             count += 1;
             let value = value_of(kind, &bytes).map_err(|why| Stop::Bad(format!("line {count} of standard input: {why}")))?;
             let outcome = self.convert(value);
-            writeln!(out, "{}", self.shown(value, &outcome))?;
+            let odd = if is_odd(&outcome) { "\todd range table" } else { "" };
+            writeln!(out, "{}{odd}", self.shown(value, &outcome))?;
             all_answered &= outcome.is_ok();
         }
         Ok(all_answered)
@@ -75,6 +79,14 @@ fn visits(outcome: &Outcome) -> String {
         Err(refusal) => refusal.visits().unwrap_or_default(),
     };
     format!("checked {} applied {}", visits.checked, visits.applied)
+}
+
+// Whether a malformed table of a range to text was consulted.
+fn is_odd(outcome: &Outcome) -> bool {
+    match outcome {
+        Ok(applied) => applied.malformed,
+        Err(refusal) => refusal.malformed(),
+    }
 }
 
 // The next line without its end, which is a newline, or a carriage return and a newline. Before the input is waited for, the answers so far are

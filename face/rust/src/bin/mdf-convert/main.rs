@@ -43,6 +43,11 @@ One value gives two lines: the answer, then N and M, how many blocks were checke
   refused 5 Deep at 1234    the number and name of a refusal, with the address that 1 to 6 have
   checked 2 applied 2       the second line: N and M
 
+A range to text (type 8) that is applied to a number and has no, one or an odd number of values is malformed: its first reference decides, whatever
+the number is. Where one was consulted, at ADDRESS or nested, the second line says so, and of many values the answer's own line, behind a tab:
+
+  checked 2 applied 2, odd range table
+
 A number has the fewest digits that read back the same float, and from 1e16 on and below 1e-5 an exponent: 2.305843009213694e18.
 
 The unit is that of the conversion at ADDRESS, except where a value to text or a range to text (types 7 and 8) passes the value on to a nested

@@ -1,0 +1,13 @@
+-- `rules::search::is_malformed_length` meets its contract. Assumes nothing.
+use borrow.Author.Tests.{lt-ltb, le-ltb}
+use Rattle.rules.proofs.search.is_malformed_length.Statement.{statement}
+use Rattle.rules.proofs.search.is_malformed_length.Tie as tie
+
+returns : tie.Need-returns
+returns c = simp (lt-ltb _ _ (c .if1 .taken))
+
+returns-2 : tie.Need-returns-2
+returns-2 c = simp (le-ltb _ _ (c .if1 .left))
+
+pub is-malformed-length-spec : {M : Type 1} → statement M
+is-malformed-length-spec = tie.close (tie.spec returns returns-2)
