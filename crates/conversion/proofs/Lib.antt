@@ -4,7 +4,7 @@ pub mod OneBlock
 pub mod Reach
 pub mod Demand
 pub mod DemandThree
-pub mod OddTables
+pub mod Consulted
 pub mod Showing
 pub mod Shows
 pub mod Settling

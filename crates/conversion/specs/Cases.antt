@@ -44,7 +44,7 @@ pub data Reply : Type 0 where
   notParsed : ℕ → Reply
   visits : ℕ → Reply
   unsound : ℕ → Reply
-  odd : Reply → Reply
+  withMalformed : Reply → Reply
 
 abbrev pub told : Answer → List ℕ → ℕ → ℕ → Reply
 told (Number x) out n m = number (toBits binary64 x) n m
@@ -54,7 +54,7 @@ told Unknown out n m = unknown n m
 told (Refused r) out n m = refused (numberOf r) out n m
 
 abbrev pub flagged : Bool → Reply → Reply
-flagged true r = odd r
+flagged true r = withMalformed r
 flagged false r = r
 
 abbrev pub ofCall : Call → Reply
@@ -208,8 +208,8 @@ cases =
     ∷ case ranges (float f20) (oneByte 50)
     ∷ case ranges (value.Float nan) (oneByte 50)
     -- length 3: index 0, matched, even for NaN; it is malformed, and said to be
-    ∷ case lengthThree (unsigned 15) (odd (text 0 (replicate 16 170) 1 1))
-    ∷ case lengthThree (value.Float nan) (odd (text 0 (replicate 16 170) 1 1))
+    ∷ case lengthThree (unsigned 15) (withMalformed (text 0 (replicate 16 170) 1 1))
+    ∷ case lengthThree (value.Float nan) (withMalformed (text 0 (replicate 16 170) 1 1))
     -- range to value 0,10,1,10,20,2,9: integer 10 gives 1, float 10 gives 2, float 20 gives 9
     ∷ case rangeToValue (unsigned 10) (number f1 1 1)
     ∷ case rangeToValue (float f10) (number f2 1 1)

@@ -1,5 +1,5 @@
--- Applying a conversion to a value (document 01, "Applying"): what is answered, and the blocks begun, by recursion on the levels left. Every rule
--- takes the nested application as an argument. Assumes nothing: these are definitions.
+-- Applying a conversion to a value (document 01, "Applying"): what is answered, the blocks begun, and whether a malformed table was consulted
+-- (request [5]), by recursion on the levels left. Every rule takes the nested application as an argument. Assumes nothing: these are definitions.
 use Prim.Native.Nat.{ℕ, zero, suc, min}
 use mathlib.Core.Bool.{Bool, false, _||_}
 use mathlib.Core.List.{List, [], _∷_, _++_}

@@ -11,30 +11,30 @@ use Rattle.gateway.specs.Checked.{addressOr}
 use Rattle.gateway.specs.Block.{flagOf}
 use Rattle.gateway.specs.declared.applied.MdfApplied.{MdfApplied}
 
--- refusal, kind, number, length, address; then N, M and whether a malformed table was consulted
-abbrev pub made : ℕ → ℕ → Float → ℕ → ℕ → ℕ → ℕ → ℕ → MdfApplied
-made refusal kind number length address checked applied malformed =
+-- refusal, kind, number, length and address, which the answer decides; then the call's N, M and whether a malformed table was consulted
+abbrev pub madeOf : ℕ → ℕ → Float → ℕ → ℕ → Applied → MdfApplied
+madeOf refusal kind number length address a =
     record {
       refusal = refusal;
       kind = kind;
       number = number;
       length = length;
       address = address;
-      checked = checked;
-      applied = applied;
-      malformed = malformed;
+      checked = a .checked;
+      applied = a .applied;
+      malformed = flagOf (a .malformed);
     }
 
 -- kind 0 refused, 1 number, 2 text, 3 unchanged, 4 unknown
-abbrev pub answerFace : Answer → ℕ → ℕ → ℕ → MdfApplied
-answerFace (Number x) n m odd = made 0 1 x 0 0 n m odd
-answerFace (Text k) n m odd = made 0 2 (ofBits binary64 0) k 0 n m odd
-answerFace Unchanged n m odd = made 0 3 (ofBits binary64 0) 0 0 n m odd
-answerFace Unknown n m odd = made 0 4 (ofBits binary64 0) 0 0 n m odd
-answerFace (Refused r) n m odd = made (numberOf r) 0 (ofBits binary64 0) 0 (addressOr (addressOf r)) n m odd
+abbrev pub answerFace : Answer → Applied → MdfApplied
+answerFace (Number x) a = madeOf 0 1 x 0 0 a
+answerFace (Text k) a = madeOf 0 2 (ofBits binary64 0) k 0 a
+answerFace Unchanged a = madeOf 0 3 (ofBits binary64 0) 0 0 a
+answerFace Unknown a = madeOf 0 4 (ofBits binary64 0) 0 0 a
+answerFace (Refused r) a = madeOf (numberOf r) 0 (ofBits binary64 0) 0 (addressOr (addressOf r)) a
 
 abbrev pub appliedFace : Applied → MdfApplied
-appliedFace a = answerFace (a .answer) (a .checked) (a .applied) (flagOf (a .malformed))
+appliedFace a = answerFace (a .answer) a
 
 -- the answer, and what the lent output holds
 pub record FaceCall : Type 0 where

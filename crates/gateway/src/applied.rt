@@ -9,7 +9,7 @@ ghost use mathlib.Core.List.{[]};
 ghost use Rattle.rules.specs.declared.number.Value.the-variants.{Unsigned, Signed, Float, Text, Other};
 ghost use Rattle.steps.specs.Mode.{standard};
 ghost use Rattle.conversion.specs.Entry.{applying};
-ghost use Rattle.gateway.specs.Applied.{answerFace, appliedFace, face, callFace};
+ghost use Rattle.gateway.specs.Applied.{madeOf, appliedFace, face, callFace};
 
 // `kind`: 0 refused, 1 number, 2 text, 3 unchanged, 4 unknown. `malformed`: 1 where a malformed table was consulted, else 0. Fields that do not
 // apply are 0.
@@ -25,60 +25,20 @@ pub struct MdfApplied {
     pub malformed: u32,
 }
 
-fn answer_face(answer: Answer, checked: u32, applied: u32, malformed: u32) -> MdfApplied
-    ensures { λ r. ⌜ r ≡ answerFace answer checked applied malformed ⌝ }
+// The fields that an answer decides, with the call's N, M and flag.
+fn made(refusal: u32, kind: u32, number: f64, length: u64, address: u64, a: Applied) -> MdfApplied
+    ensures { λ r. ⌜ r ≡ madeOf refusal kind number length address a ⌝ }
 {
-    match answer {
-        Answer::Number(x) => MdfApplied {
-            refusal: 0,
-            kind: 1,
-            number: x,
-            length: 0,
-            address: 0,
-            checked,
-            applied,
-            malformed,
-        },
-        Answer::Text(n) => MdfApplied {
-            refusal: 0,
-            kind: 2,
-            number: 0.0,
-            length: n as u64,
-            address: 0,
-            checked,
-            applied,
-            malformed,
-        },
-        Answer::Unchanged => MdfApplied {
-            refusal: 0,
-            kind: 3,
-            number: 0.0,
-            length: 0,
-            address: 0,
-            checked,
-            applied,
-            malformed,
-        },
-        Answer::Unknown => MdfApplied {
-            refusal: 0,
-            kind: 4,
-            number: 0.0,
-            length: 0,
-            address: 0,
-            checked,
-            applied,
-            malformed,
-        },
-        Answer::Refused(r) => MdfApplied {
-            refusal: r.number() as u32,
-            kind: 0,
-            number: 0.0,
-            length: 0,
-            address: address_or(r.address()),
-            checked,
-            applied,
-            malformed,
-        },
+    let malformed = a.malformed as u32;
+    MdfApplied {
+        refusal,
+        kind,
+        number,
+        length,
+        address,
+        checked: a.checked,
+        applied: a.applied,
+        malformed,
     }
 }
 
@@ -86,7 +46,17 @@ fn applied_face(a: Applied) -> MdfApplied
     ensures { λ r. ⌜ r ≡ appliedFace a ⌝ }
 {
     let answer = a.answer;
-    answer_face(answer, a.checked, a.applied, a.malformed as u32)
+    match answer {
+        Answer::Number(x) => made(0, 1, x, 0, 0, a),
+        Answer::Text(n) => made(0, 2, 0.0, n as u64, 0, a),
+        Answer::Unchanged => made(0, 3, 0.0, 0, 0, a),
+        Answer::Unknown => made(0, 4, 0.0, 0, 0, a),
+        Answer::Refused(r) => {
+            let refusal = r.number() as u32;
+            let address = address_or(r.address());
+            made(refusal, 0, 0.0, 0, address, a)
+        }
+    }
 }
 
 #[no_mangle]

@@ -1,16 +1,15 @@
 -- A malformed table of ranges (request [5]): the search in three ways decides by document 01's index and match, and says malformed for length 0, 1 or
 -- odd, and for no other. Assumes nothing.
-use mathlib.Core.Path.{_≡_, refl, sym, ap, _∙_}
+use mathlib.Core.Path.{_≡_, refl, sym, _∙_}
 use mathlib.Core.List.{List, [], _∷_}
 use mathlib.Core.Bool.{Bool, true, false, _||_, cond}
-use Prim.Native.Nat.{ℕ, zero, suc, _/_, _%_, _≤_, _<_}
+use Prim.Native.Nat.{ℕ, _/_, _%_, _≤_, _<_}
 use native.Mathlib.Omega.{arith}
 use borrow.Author.Tests.{lt-ltb, le-ltb, ltb-true, ltb-false, eqb-true, eqb-false}
 use lib.Dec.{eqb, ltb}
 use lib.ListN.{length}
 use lib.Ieee.{Float}
 use Rattle.rules.specs.Search.{deciding, isMatch, isMalformed, searched, firstRange, rangeIndex, malformed, rangeSearch}
-use Rattle.rules.specs.declared.search.Searched.{Searched}
 use Rattle.rules.specs.declared.search.Searched.the-variants.{Matched, Unmatched, Malformed}
 
 decided-by : (i n : ℕ) → deciding (searched i n) ≡ i

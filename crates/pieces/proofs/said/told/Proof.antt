@@ -1,6 +1,4 @@
 -- `pieces::said::told` meets its contract. Assumes nothing.
-use mathlib.Core.Path.{sym, ap, _∙_}
-use Rattle.pieces.specs.Did.{toldOf}
 use borrow.Author.Needs.{needs}
 use Rattle.pieces.proofs.said.told.Statement.{statement}
 use Rattle.pieces.proofs.said.told.Tie as tie
@@ -42,22 +40,22 @@ quiet-requires-6 : tie.Need-quiet-requires-6
 quiet-requires-6 c κs = search needs
 
 returns : tie.Need-returns
-returns c = c .quiet .ensures ∙ ap toldOf (sym (c .before .before .p .given .1))
+returns c = rw (c .before .before .p .given .1) (c .quiet .ensures)
 
 returns-2 : tie.Need-returns-2
-returns-2 c = c .quiet2 .ensures ∙ ap toldOf (sym (c .before .before .p2 .given .1))
+returns-2 c = rw (c .before .before .p2 .given .1) (c .quiet2 .ensures)
 
 returns-3 : tie.Need-returns-3
-returns-3 c = c .quiet3 .ensures ∙ ap toldOf (sym (c .before .enum-told .given .1))
+returns-3 c = rw (c .before .enum-told .given .1) (c .quiet3 .ensures)
 
 returns-4 : tie.Need-returns-4
-returns-4 c = c .quiet4 .ensures ∙ ap toldOf (sym (c .before .enum-told2 .given .1))
+returns-4 c = rw (c .before .enum-told2 .given .1) (c .quiet4 .ensures)
 
 returns-5 : tie.Need-returns-5
-returns-5 c = c .quiet5 .ensures ∙ ap toldOf (sym (c .before .enum-told3 .given .1))
+returns-5 c = rw (c .before .enum-told3 .given .1) (c .quiet5 .ensures)
 
 returns-6 : tie.Need-returns-6
-returns-6 c = c .quiet6 .ensures ∙ ap toldOf (sym (c .before .enum-told4 .given .1))
+returns-6 c = rw (c .before .enum-told4 .given .1) (c .quiet6 .ensures)
 
 pub told-spec : {M : Type 1} → statement M
 told-spec =

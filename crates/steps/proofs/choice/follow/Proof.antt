@@ -1,7 +1,6 @@
 -- `steps::choice::follow` meets its contract. Assumes nothing.
 use mathlib.Core.Path.{_≡_, sym, ap, subst, _∙_}
 use mathlib.Core.Bool.{Bool}
-use Prim.Native.Nat.{ℕ}
 use denote.Ref.{now}
 use Rattle.leads.specs.Lead.{leadAt, LeadIn}
 use Rattle.leads.specs.declared.lead.Lead.{Lead}
