@@ -1,4 +1,4 @@
-// The wrong builds: each is the second reading with one rule of document 01 broken. WRONG-BUILDS.md is this list in words.
+// The wrong builds: each is the second reading with one rule of document 01 or of request [5] broken. WRONG-BUILDS.md is this list in words.
 
 /// Who has to catch a wrong build: the crate; the proved build where the crate has no such rule or no say; the clock where all answers are right.
 #[derive(Clone, Copy, Debug, PartialEq, Eq)]

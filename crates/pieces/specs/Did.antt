@@ -89,10 +89,13 @@ abbrev pub notedOf : Bool → Outcome → Outcome
 notedOf odd r = record { said = r .said; visits = r .visits; malformed = odd || r .malformed }
 
 -- a plain answer as it is said
+abbrev pub saidOf : Plain → Said
+saidOf (plain.Number x) = said.Number x
+saidOf (plain.Words from to) = said.Words from to
+saidOf plain.Unchanged = said.Unchanged
+saidOf plain.Unknown = said.Unknown
+saidOf plain.Formula = said.Formula
+saidOf plain.Broken = said.Broken
+
 abbrev pub toldOf : Plain → Outcome
-toldOf (plain.Number x) = quietOf (said.Number x)
-toldOf (plain.Words from to) = quietOf (said.Words from to)
-toldOf plain.Unchanged = quietOf said.Unchanged
-toldOf plain.Unknown = quietOf said.Unknown
-toldOf plain.Formula = quietOf said.Formula
-toldOf plain.Broken = quietOf said.Broken
+toldOf p = quietOf (saidOf p)

@@ -3,7 +3,7 @@ use crate::paste::add_visits;
 use steps::plain::Plain;
 ghost use mathlib.Core.Path.{_≡_};
 ghost use mathlib.Core.Bool.{_||_};
-ghost use Rattle.pieces.specs.Did.{quietOf, countedOf, notedOf, toldOf};
+ghost use Rattle.pieces.specs.Did.{quietOf, countedOf, notedOf, saidOf, toldOf};
 
 // A text is said by where it runs in the image, with nothing written, or, where it was put together, by the place behind it, or one behind the
 // room. `Formula` and `Broken` stop the application.
@@ -68,16 +68,22 @@ impl Outcome {
     }
 }
 
+fn said_of(p: Plain) -> Said
+    ensures { λ r. ⌜ r ≡ saidOf p ⌝ }
+{
+    match p {
+        Plain::Number(x) => Said::Number(x),
+        Plain::Words(from, to) => Said::Words(from, to),
+        Plain::Unchanged => Said::Unchanged,
+        Plain::Unknown => Said::Unknown,
+        Plain::Formula => Said::Formula,
+        Plain::Broken => Said::Broken,
+    }
+}
+
 // A plain answer as it is said.
 pub fn told(p: Plain) -> Outcome
     ensures { λ r. ⌜ r ≡ toldOf p ⌝ }
 {
-    match p {
-        Plain::Number(x) => Outcome::quiet(Said::Number(x)),
-        Plain::Words(from, to) => Outcome::quiet(Said::Words(from, to)),
-        Plain::Unchanged => Outcome::quiet(Said::Unchanged),
-        Plain::Unknown => Outcome::quiet(Said::Unknown),
-        Plain::Formula => Outcome::quiet(Said::Formula),
-        Plain::Broken => Outcome::quiet(Said::Broken),
-    }
+    Outcome::quiet(said_of(p))
 }
