@@ -1,5 +1,5 @@
-// A second reading of document 01 and request [5], plain and slow: check, apply, parse, write and the type 10 entry. It judges the proved build where the
-// crate has no say, and with one rule broken (`wrong`) it is a wrong build that the comparison has to catch.
+// A second reading of document 01 and request [5], plain and slow: check, apply, parse, write and the type 10 entry. It judges the proved build
+// where the crate has no say, and with one rule broken (`wrong`) it is a wrong build that the comparison has to catch.
 mod apply;
 mod block;
 mod rules;

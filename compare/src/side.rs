@@ -18,8 +18,8 @@ pub struct Checked {
     pub address: u64,
 }
 
-/// `kind`: 0 refused, 1 number, 2 text, 3 unchanged, 4 unknown. `malformed`: 1 where a malformed table was consulted, else 0; the crate tells nothing of
-/// it.
+/// `kind`: 0 refused, 1 number, 2 text, 3 unchanged, 4 unknown. `malformed`: 1 where a malformed table was consulted, else 0; the crate does not
+/// tell.
 #[repr(C)]
 #[derive(Clone, Copy, Debug)]
 pub struct Applied {

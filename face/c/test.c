@@ -17,6 +17,9 @@
 
 /* ---- counting ---- */
 
+/* What C programs that were compiled apart rely on. */
+_Static_assert(sizeof(mdf_applied) == 48 && offsetof(mdf_applied, malformed) == 40, "mdf_applied has 48 bytes, and `malformed` at 40");
+
 static int passed, failed;
 
 static void expect(bool holds, const char *name) {

@@ -159,6 +159,7 @@ fn help() {
         "KIND -",
         "unsigned, signed, float or text",
         "refused 5 Deep at 1234",
+        "\n  checked 2 applied 2, odd range table\n  text slow\todd range table\n",
         "Exit status",
         "from 1e16 on and below 1e-5",
         "types 7 and 8",

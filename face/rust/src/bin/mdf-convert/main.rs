@@ -47,6 +47,7 @@ A range to text (type 8) that is applied to a number and has no, one or an odd n
 the number is. Where one was consulted, at ADDRESS or nested, the second line says so, and of many values the answer's own line, behind a tab:
 
   checked 2 applied 2, odd range table
+  text slow\todd range table
 
 A number has the fewest digits that read back the same float, and from 1e16 on and below 1e-5 an exponent: 2.305843009213694e18.
 
