@@ -76,7 +76,8 @@ enum mdf_refusal {
     MDF_REFUSED_LOOP = 6,           /* a link back to a block on the current path */
     MDF_REFUSED_FORMULA = 7,        /* applying reaches a formula (type 3) with a number */
     MDF_REFUSED_ROOM = 8,           /* the text or block is longer than `out` */
-    MDF_REFUSED_COUNT = 9           /* more than 65,535 values to write */
+    MDF_REFUSED_COUNT = 9,          /* more than 65,535 values to write */
+    MDF_REFUSED_WIDTH = 11          /* the width of a mode is 0 or above 64 */
 };
 
 /* What an application answers. */
@@ -102,12 +103,17 @@ typedef struct {
     double number;    /* of kind MDF_KIND_NUMBER */
     uint64_t length;  /* bytes of the text, of kind MDF_KIND_TEXT */
     uint64_t address; /* of a refusal from 1 to 6 */
-    uint32_t checked; /* N, the visits of the check; 0 where refused with 1 to 6 */
-    uint32_t applied; /* M, the visits of applying; 0 where refused with 1 to 6 */
+    uint32_t checked; /* N, the visits of the check; 0 where refused with 1 to 6 or 11 */
+    uint32_t applied; /* M, the visits of applying; 0 where refused with 1 to 6 or 11 */
     /* 1: a malformed table was consulted, up to the answer or the refusal: a range to text (type 8) was applied to a number, and has no, one or an
-     * odd number of values. Its first reference then decides, whatever the number is. Else 0, also where refused with 1 to 6. */
+     * odd number of values. Its first reference then decides, whatever the number is. Else 0, also where refused with 1 to 6 or 11. */
     uint32_t malformed;
 } mdf_applied;
+
+/* How an application is to be done. */
+typedef struct {
+    uint32_t width; /* how many bits the signal has, 1 to 64: only so many low bits of a whole number reach the masks of bit groups */
+} mdf_mode;
 
 /* A part of the image or of the question. */
 typedef struct {
@@ -166,7 +172,8 @@ mdf_checked mdf_check(const uint8_t *image, size_t image_len, uint64_t address, 
 mdf_applied mdf_apply_unsigned(const uint8_t *image, size_t image_len, uint64_t address, uint32_t limit, uint64_t value, uint8_t *out,
                                size_t out_len);
 
-/* As mdf_apply_unsigned, for a signed whole number. Bit groups see its 64 bits in two's complement. */
+/* As mdf_apply_unsigned, for a signed whole number. Bit groups see its 64 bits in two's complement; where the signal has fewer, see
+ * mdf_apply_mode_signed. */
 mdf_applied mdf_apply_signed(const uint8_t *image, size_t image_len, uint64_t address, uint32_t limit, int64_t value, uint8_t *out,
                              size_t out_len);
 
@@ -180,6 +187,25 @@ mdf_applied mdf_apply_text(const uint8_t *image, size_t image_len, uint64_t addr
 
 /* As mdf_apply_unsigned, for a value of any other kind. It stays unchanged, unless the check refuses. */
 mdf_applied mdf_apply_other(const uint8_t *image, size_t image_len, uint64_t address, uint32_t limit, uint8_t *out, size_t out_len);
+
+/* As mdf_apply_unsigned, in a mode. Every block of bit groups (type 11) that is reached sees no more than the low `mode.width` bits of the value: a
+ * signal of 4 bits has no bit 4, so that a group with the mask 16 gets 0. No other conversion looks at the width; width 64 is mdf_apply_unsigned.
+ * Refuses with 11 where the width is 0 or above 64, before anything else is looked at. */
+mdf_applied mdf_apply_mode_unsigned(const uint8_t *image, size_t image_len, uint64_t address, uint32_t limit, mdf_mode mode, uint64_t value,
+                                    uint8_t *out, size_t out_len);
+
+/* As mdf_apply_mode_unsigned, for a signed whole number. Bit groups see the low bits of its two's complement: -1 of a signal of 4 bits is 15 to
+ * them, where mdf_apply_signed shows them all 64 bits. */
+mdf_applied mdf_apply_mode_signed(const uint8_t *image, size_t image_len, uint64_t address, uint32_t limit, mdf_mode mode, int64_t value,
+                                  uint8_t *out, size_t out_len);
+
+/* As mdf_apply_float, mdf_apply_text and mdf_apply_other, in a mode: the width is tested and plays no other part. */
+mdf_applied mdf_apply_mode_float(const uint8_t *image, size_t image_len, uint64_t address, uint32_t limit, mdf_mode mode, double value,
+                                 uint8_t *out, size_t out_len);
+mdf_applied mdf_apply_mode_text(const uint8_t *image, size_t image_len, uint64_t address, uint32_t limit, mdf_mode mode, const uint8_t *text,
+                                size_t text_len, uint8_t *out, size_t out_len);
+mdf_applied mdf_apply_mode_other(const uint8_t *image, size_t image_len, uint64_t address, uint32_t limit, mdf_mode mode, uint8_t *out,
+                                 size_t out_len);
 
 /* Translates a text without copying it: answers the part of the image with the text that a text to text conversion (type 10) chooses for the
  * question. Answers the question itself where the check refuses, the root has another type, or no text is chosen. Names no refusal. */

@@ -1,4 +1,4 @@
-/* Calls each function of mdf_conversion.h: every line of document 01's "Cases", and every refusal from 1 to 9.
+/* Calls each function of mdf_conversion.h: every line of document 01's "Cases", every refusal from 1 to 9, and 11.
  *
  * The images are built here byte by byte. Each call gets its image in a block of the heap of exactly its length, so that valgrind sees a read past
  * its end, and an output buffer between guard bytes. After each call every byte that should be as it was is compared. */
@@ -18,6 +18,7 @@
 /* ---- counting ---- */
 
 /* What C programs that were compiled apart rely on. */
+_Static_assert(sizeof(mdf_mode) == 4, "mdf_mode has 4 bytes");
 _Static_assert(sizeof(mdf_applied) == 48 && offsetof(mdf_applied, malformed) == 40, "mdf_applied has 48 bytes, and `malformed` at 40");
 
 static int passed, failed;
@@ -204,21 +205,38 @@ static value of_text(const char *words) {
 
 static const value other = {.sort = OTHER};
 
-static mdf_applied apply_text(const uint8_t *image, uint64_t address, uint32_t limit, const char *words, uint8_t *out, size_t room) {
+/* The functions without a mode where it is NULL, else those with one. */
+static mdf_applied apply_text(const uint8_t *image, uint64_t address, uint32_t limit, const mdf_mode *mode, const char *words, uint8_t *out,
+                              size_t room) {
     uint8_t *lent = lent_text(words);
-    mdf_applied a = mdf_apply_text(image, built_len, address, limit, lent, strlen(words), out, room);
+    mdf_applied a = mode ? mdf_apply_mode_text(image, built_len, address, limit, *mode, lent, strlen(words), out, room)
+                         : mdf_apply_text(image, built_len, address, limit, lent, strlen(words), out, room);
     free(lent);
     return a;
 }
 
-static mdf_applied apply(const uint8_t *image, uint64_t address, uint32_t limit, value v, uint8_t *out, size_t room) {
+static mdf_applied apply_plain(const uint8_t *image, uint64_t address, uint32_t limit, value v, uint8_t *out, size_t room) {
     switch (v.sort) {
     case UNSIGNED: return mdf_apply_unsigned(image, built_len, address, limit, v.number, out, room);
     case SIGNED: return mdf_apply_signed(image, built_len, address, limit, (int64_t)v.number, out, room);
     case FLOAT: return mdf_apply_float(image, built_len, address, limit, v.real, out, room);
-    case TEXT: return apply_text(image, address, limit, v.text, out, room);
+    case TEXT: return apply_text(image, address, limit, NULL, v.text, out, room);
     default: return mdf_apply_other(image, built_len, address, limit, out, room);
     }
+}
+
+static mdf_applied apply_moded(const uint8_t *image, uint64_t address, uint32_t limit, mdf_mode mode, value v, uint8_t *out, size_t room) {
+    switch (v.sort) {
+    case UNSIGNED: return mdf_apply_mode_unsigned(image, built_len, address, limit, mode, v.number, out, room);
+    case SIGNED: return mdf_apply_mode_signed(image, built_len, address, limit, mode, (int64_t)v.number, out, room);
+    case FLOAT: return mdf_apply_mode_float(image, built_len, address, limit, mode, v.real, out, room);
+    case TEXT: return apply_text(image, address, limit, &mode, v.text, out, room);
+    default: return mdf_apply_mode_other(image, built_len, address, limit, mode, out, room);
+    }
+}
+
+static mdf_applied apply(const uint8_t *image, uint64_t address, uint32_t limit, const mdf_mode *mode, value v, uint8_t *out, size_t room) {
+    return mode ? apply_moded(image, address, limit, *mode, v, out, room) : apply_plain(image, address, limit, v, out, room);
 }
 
 static bool same_answer(mdf_applied a, mdf_applied b) {
@@ -227,12 +245,34 @@ static bool same_answer(mdf_applied a, mdf_applied b) {
 }
 
 /* Applies, and compares every field of the answer and every byte of the output, which is to have `words`. */
-static void applies_within(const char *name, uint64_t address, uint32_t limit, size_t room, value v, mdf_applied wanted, const char *words) {
+static void applies_in(const char *name, uint64_t address, uint32_t limit, const mdf_mode *mode, size_t room, value v, mdf_applied wanted,
+                       const char *words) {
     uint8_t *image = lent_image(), *out = lent_out(room);
-    mdf_applied a = apply(image, address, limit, v, out, room);
+    mdf_applied a = apply(image, address, limit, mode, v, out, room);
     expect(same_answer(a, wanted) && holds(out, room, words, strlen(words)), name);
     give_back_image(image, name);
     give_back_out(out);
+}
+
+static void applies_at_width(const char *name, uint64_t address, uint32_t limit, uint32_t width, size_t room, value v, mdf_applied wanted,
+                             const char *words) {
+    mdf_mode mode = {.width = width};
+    applies_in(name, address, limit, &mode, room, v, wanted, words);
+}
+
+static const uint32_t wrong_widths[] = {0, 65, UINT32_MAX};
+
+/* 11, whatever else the call asks. */
+static void is_no_width(const char *name, uint64_t address, uint32_t limit, size_t room, value v) {
+    static const mdf_applied refused = {.refusal = MDF_REFUSED_WIDTH, .kind = MDF_KIND_REFUSED};
+    for (size_t i = 0; i < COUNT_OF(wrong_widths); i++) applies_at_width(name, address, limit, wrong_widths[i], room, v, refused, "");
+}
+
+/* Every case is asked without a mode, at width 64, where the answer is the same, and at widths that are refused before anything else. */
+static void applies_within(const char *name, uint64_t address, uint32_t limit, size_t room, value v, mdf_applied wanted, const char *words) {
+    applies_in(name, address, limit, NULL, room, v, wanted, words);
+    applies_at_width(name, address, limit, 64, room, v, wanted, words);
+    is_no_width(name, address, limit, room, v);
 }
 
 static void applies(const char *name, uint64_t address, value v, mdf_applied wanted, const char *words) {
@@ -458,6 +498,62 @@ static void bit_group_cases(void) {
     applies_within("14 bytes of room", groups, LIMIT, 14, of_unsigned(6), wanted, "Gear = Low|PTO");
     is_refused("13 bytes of room: 8 Room", groups, 13, of_unsigned(6), MDF_REFUSED_ROOM, 2, 2);
     is_refused("no room: 8 Room", groups, 0, of_unsigned(6), MDF_REFUSED_ROOM, 2, 2);
+}
+
+/* ---- request [2]: the width of a signal ---- */
+
+static void shows(const char *name, uint64_t address, uint32_t width, value v, const char *words, uint32_t visits) {
+    applies_at_width(name, address, LIMIT, width, ROOM, v, a_text(words, visits, visits), words);
+}
+
+/* Bit groups with a mask below a width, one across it and one above it. What a group gets it shows: the bit below, the bit above, both or none. */
+static uint64_t masks_around(uint32_t width, const uint64_t *texts) {
+    uint64_t below = UINT64_C(1) << (width - 1), above = width < 64 ? UINT64_C(1) << width : 0;
+    const uint64_t masks[] = {below, below | above, above};
+    const double keys[] = {0, (double)below, (double)below + (double)above, (double)above};
+    uint64_t shown = of_values(7, texts, 4, keys, 4);
+    const uint64_t refs[] = {shown, shown, shown};
+    return of_words(11, refs, 3, masks, 3);
+}
+
+static void width_cases(void) {
+    static const uint32_t widths[] = {1, 3, 4, 8, 31, 32, 33, 63};
+    begin();
+    const uint64_t texts[] = {text("none"), text("below"), text("both"), text("above")};
+    for (size_t i = 0; i < COUNT_OF(widths); i++) {
+        uint32_t width = widths[i];
+        uint64_t groups = masks_around(width, texts), below = UINT64_C(1) << (width - 1);
+        shows("a width: signed -1 has no bit above it", groups, width, of_signed(-1), "below|below|none", 4);
+        shows("a width: nor has the largest unsigned", groups, width, of_unsigned(UINT64_MAX), "below|below|none", 4);
+        shows("a width: the sign is not extended", groups, width, of_signed(-(int64_t)(below - 1) - 1), "below|below|none", 4);
+        shows("a width: a bit above it is not there", groups, width, of_unsigned(below << 1), "none|none|none", 4);
+        shows("a width: a bit below it is", groups, width, of_unsigned(below), "below|below|none", 4);
+        shows("one bit more", groups, width + 1, of_signed(-1), "below|both|above", 4);
+        shows("width 64: signed -1 has all bits", groups, 64, of_signed(-1), "below|both|above", 4);
+    }
+    uint64_t last = masks_around(64, texts);
+    shows("width 64: the last bit is there", last, 64, of_signed(-1), "below|below|none", 4);
+    shows("width 63: it is not", last, 63, of_signed(-1), "none|none|none", 4);
+}
+
+/* Where bit groups stand below other blocks: 7 hands on the value itself, bit groups what a mask left of it. */
+static void width_below_cases(void) {
+    static const double minus_one = -1;
+    static const uint64_t all = UINT64_MAX;
+    begin();
+    const uint64_t texts[] = {text("none"), text("below"), text("both"), text("above")};
+    uint64_t groups = masks_around(4, texts);
+    uint64_t by_key = of_values(7, &groups, 1, &minus_one, 1), nested = of_words(11, &groups, 1, &all, 1);
+    shows("a width under a value to text: the key is the whole value", by_key, 4, of_signed(-1), "below|below|none", 5);
+    shows("width 64 under a value to text", by_key, 64, of_signed(-1), "below|both|above", 5);
+    shows("a width under bit groups", nested, 4, of_signed(-1), "below|below|none", 5);
+    shows("width 64 under bit groups", nested, 64, of_signed(-1), "below|both|above", 5);
+    const mdf_applied unchanged = {.kind = MDF_KIND_UNCHANGED, .checked = 4, .applied = 1};
+    applies_at_width("a width and a float", groups, LIMIT, 4, ROOM, of_float(-1), unchanged, "");
+    applies_at_width("a width and a text", groups, LIMIT, 4, ROOM, of_text("-1"), unchanged, "");
+    applies_at_width("a width and a value of kind other", groups, LIMIT, 4, ROOM, other, unchanged, "");
+    const mdf_applied too_long = {.refusal = MDF_REFUSED_ROOM, .kind = MDF_KIND_REFUSED, .checked = 4, .applied = 4};
+    applies_at_width("a width and no room", groups, LIMIT, 4, 15, of_signed(-1), too_long, "");
 }
 
 static void visit_cases(void) {
@@ -835,6 +931,8 @@ int main(void) {
     range_to_value_cases();
     range_field_cases();
     bit_group_cases();
+    width_cases();
+    width_below_cases();
     visit_cases();
     deep_cases();
     outside_cases();

@@ -1,7 +1,7 @@
--- The number and the address of each refusal (document 01, "What a call can say"). Assumes nothing: these are definitions.
+-- The number and the address of each refusal (document 01, "What a call can say"; request [2]: "11 Width"). Assumes nothing: these are definitions.
 use Prim.Native.Nat.{ℕ}
 use Rattle.common.specs.declared.refusal.Refusal.{Refusal}
-use Rattle.common.specs.declared.refusal.Refusal.the-variants.{Outside, NotConversion, Limit, Short, Deep, Loop, Formula, Room, Count}
+use Rattle.common.specs.declared.refusal.Refusal.the-variants.{Outside, NotConversion, Limit, Short, Deep, Loop, Formula, Room, Count, Width}
 use Rattle.common.specs.declared.refusal.Word.{Word}
 use Rattle.common.specs.declared.refusal.Word.the-variants.{Bits, NoWord}
 
@@ -15,6 +15,7 @@ numberOf (Loop a) = 6
 numberOf Formula = 7
 numberOf Room = 8
 numberOf Count = 9
+numberOf Width = 11
 
 -- 1 to 6 also the block or link address
 abbrev pub addressOf : Refusal → Word
@@ -27,3 +28,4 @@ addressOf (Loop a) = Bits a
 addressOf Formula = NoWord
 addressOf Room = NoWord
 addressOf Count = NoWord
+addressOf Width = NoWord

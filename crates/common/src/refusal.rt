@@ -1,4 +1,5 @@
-// Why a call is refused. Stands for the parts of error.rs that a conversion can meet; the numbers are document 01's.
+// Why a call is refused. Stands for the parts of error.rs that a conversion can meet; the numbers are document 01's, and from 11 on those of the
+// requests after it.
 ghost use mathlib.Core.Path.{_≡_};
 ghost use Rattle.common.specs.Refusal.{numberOf, addressOf};
 
@@ -13,6 +14,7 @@ pub enum Refusal {
     Formula,
     Room,
     Count,
+    Width,
 }
 
 // A number of 64 bits, where there is one.
@@ -22,7 +24,7 @@ pub enum Word {
 }
 
 impl Refusal {
-    // Document 01's number.
+    // Its number.
     pub fn number(self) -> u8
         ensures { λ r. ⌜ r ≡ numberOf self ⌝ }
     {
@@ -36,6 +38,7 @@ impl Refusal {
             Refusal::Formula => 7,
             Refusal::Room => 8,
             Refusal::Count => 9,
+            Refusal::Width => 11,
         }
     }
 
@@ -53,6 +56,7 @@ impl Refusal {
             Refusal::Formula => Word::NoWord,
             Refusal::Room => Word::NoWord,
             Refusal::Count => Word::NoWord,
+            Refusal::Width => Word::NoWord,
         }
     }
 }

@@ -19,7 +19,7 @@ use Rattle.tree.specs.declared.Checked.the-variants.{Accepted, Unsound}
 use Rattle.tree.proofs.Acceptance.{acceptance}
 use Rattle.tree.proofs.Checks.{Rooted, limit-comes, limit-only}
 use Rattle.engine.specs.Apply.{applied}
-use Rattle.conversion.specs.Entry.{Call, call, settled, byCheck, applying}
+use Rattle.conversion.specs.Entry.{Call, call, settled, refusedBefore, byCheck, applying}
 use Rattle.conversion.specs.Reach.{NoGroups}
 use Rattle.conversion.specs.declared.logic.Answer.the-variants.{Refused}
 use Rattle.conversion.proofs.Demand.{after-check, visits, few-visits, refused-only, same-when-raised, untouched}
@@ -91,7 +91,7 @@ module _ (mode : Mode) (img : List ℕ) (a limit : ℕ) (v : Value) (t out : Lis
   after-refused : (r : Refusal) → checked img a limit ≡ Unsound r → AfterRefused r
   unfolding applying
   after-refused r e =
-      let it : made ≡ call (record { answer = Refused r; checked = 0; applied = 0; malformed = false }) out =
+      let it : made ≡ call (refusedBefore r) out =
       ap (λ (c : Checked). byCheck c (λ n. settled n a (applied 21 mode img t a v) out) out) e in
       record {
         answer = ap (λ (c : Call). c .result .answer) it;

@@ -6,6 +6,7 @@ use mathlib.Core.List.{List, _++_}
 use lib.Dec.{leb}
 use lib.ListN.{length, drop}
 use Rattle.common.specs.Refusal.{numberOf, addressOf}
+use Rattle.common.specs.declared.refusal.Refusal.{Refusal}
 use Rattle.common.specs.declared.refusal.Refusal.the-variants as refusal
 use Rattle.common.specs.declared.refusal.Word.{Word}
 use Rattle.common.specs.declared.refusal.Word.the-variants.{NoWord}
@@ -20,7 +21,7 @@ use Rattle.conversion.specs.declared.logic.Answer.{Answer}
 use Rattle.conversion.specs.declared.logic.Answer.the-variants.{Number, Text, Unchanged, Unknown, Refused}
 use Rattle.conversion.specs.declared.logic.Applied.{Applied}
 
--- document 01's number of a refusal; 0 for an answer that is none
+-- the number of a refusal; 0 for an answer that is none
 abbrev pub refusalNumber : Answer → ℕ
 refusalNumber (Number x) = 0
 refusalNumber (Text n) = 0
@@ -68,10 +69,14 @@ settled n a x out =
     call (record { answer = answerIn (length out) a (x .says); checked = n; applied = length (x .begun); malformed = x .malformed })
     (outputAfter out (x .says))
 
--- check refusals come first, tell no visits, and have consulted no table
+-- a refusal before applying tells no visits, and has consulted no table
+abbrev pub refusedBefore : Refusal → Applied
+refusedBefore r = record { answer = Refused r; checked = 0; applied = 0; malformed = false }
+
+-- check refusals come first
 abbrev pub byCheck : Checked → (ℕ → Call) → List ℕ → Call
 byCheck (Accepted n) f out = f n
-byCheck (Unsound r) f out = call (record { answer = Refused r; checked = 0; applied = 0; malformed = false }) out
+byCheck (Unsound r) f out = call (refusedBefore r) out
 
 -- one call checks, then applies: depths 0 to 20 are 21 levels
 unfoldable pub applying : Mode → List ℕ → ℕ → ℕ → Value → List ℕ → List ℕ → Call

@@ -27,7 +27,7 @@ ghost use Rattle.tree.specs.declared.Checked.the-variants.{Accepted};
 ghost use Rattle.steps.specs.Mode.{standard};
 ghost use Rattle.engine.specs.Apply.{applied as appliedTo};
 ghost use Rattle.conversion.specs.Laid.{Laid, Answered};
-ghost use Rattle.conversion.specs.Entry.{refusalNumber, addressIn, call, settled, applying};
+ghost use Rattle.conversion.specs.Entry.{refusalNumber, addressIn, call, settled, refusedBefore, applying};
 
 // Document 01's answers.
 pub enum Answer {
@@ -40,7 +40,7 @@ pub enum Answer {
 }
 
 impl Answer {
-    // Document 01's number of the refusal; 0 where nothing is refused.
+    // The refusal's number; 0 where nothing is refused.
     pub fn refusal(self) -> u8
         ensures { λ r. ⌜ r ≡ refusalNumber self ⌝ }
     {
@@ -68,6 +68,20 @@ pub struct Applied {
     pub checked: u32,
     pub applied: u32,
     pub malformed: bool,
+}
+
+impl Applied {
+    // Refused before a block was applied.
+    pub fn refused(refusal: Refusal) -> Applied
+        ensures { λ r. ⌜ r ≡ refusedBefore refusal ⌝ }
+    {
+        Applied {
+            answer: Answer::Refused(refusal),
+            checked: 0,
+            applied: 0,
+            malformed: false,
+        }
+    }
 }
 
 // A text that runs in the image: it is looked at once, no further than one byte past the room, and then copied if it fits.
@@ -186,12 +200,7 @@ pub fn apply_in(
 {
     match check(image, address, limit) {
         Checked::Accepted(n) => apply_checked(mode, image, address, limit, n, value, text, out),
-        Checked::Unsound(refusal) => Applied {
-            answer: Answer::Refused(refusal),
-            checked: 0,
-            applied: 0,
-            malformed: false,
-        },
+        Checked::Unsound(refusal) => Applied::refused(refusal),
     }
 }
 

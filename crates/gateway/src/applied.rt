@@ -42,7 +42,7 @@ fn made(refusal: u32, kind: u32, number: f64, length: u64, address: u64, a: Appl
     }
 }
 
-fn applied_face(a: Applied) -> MdfApplied
+pub fn applied_face(a: Applied) -> MdfApplied
     ensures { λ r. ⌜ r ≡ appliedFace a ⌝ }
 {
     let answer = a.answer;

@@ -2,5 +2,6 @@
 pub mod applied;
 pub mod block;
 pub mod checked;
+pub mod moded;
 pub mod place;
 pub mod written;

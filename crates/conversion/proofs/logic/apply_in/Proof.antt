@@ -3,7 +3,8 @@ use mathlib.Core.Path.{sym, ap, _∙_}
 use denote.Ref.{now}
 use Rattle.tree.specs.declared.Checked.{Checked}
 use Rattle.engine.specs.Apply.{applied}
-use Rattle.conversion.specs.Entry.{byCheck, settled, applying}
+use Rattle.conversion.specs.Entry.{call, byCheck, settled, applying}
+use Rattle.conversion.specs.declared.logic.Applied.{Applied}
 use borrow.Author.Needs.{needs}
 use Rattle.conversion.proofs.logic.apply_in.Statement.{statement}
 use Rattle.conversion.proofs.logic.apply_in.Tie as tie
@@ -20,6 +21,9 @@ apply-checked-requires c κs = sym (c .before .before .before .before .check .en
 enum-known-refusal : tie.Need-enum-known-refusal
 enum-known-refusal c = search needs
 
+refused-requires : tie.Need-refused-requires
+refused-requires c κs = search needs
+
 same-length : tie.Need-same-length
 same-length c = search needs
 
@@ -34,9 +38,10 @@ returns c =
 returns-2 : tie.Need-returns-2
 unfolding applying
 returns-2 c =
-    let s = c .before .before .before .before .before .before .before .args in
+    let s = c .before .before .before .before .before .before .before .before .args in
     let x = applied 21 (s .mode) (now (s .image)) (now (s .text)) (s .address) (s .value) in
-    ap (λ (k : Checked). byCheck k (λ n. settled n (s .address) x (now (s .out))) (now (s .out))) (sym (c .before .refusal .given .1) ∙ c .before .before .before .check .ensures)
+    ap (λ (r : Applied). call r (now (s .out))) (c .refused .ensures)
+    ∙ ap (λ (k : Checked). byCheck k (λ n. settled n (s .address) x (now (s .out))) (now (s .out))) (sym (c .before .before .refusal .given .1) ∙ c .before .before .before .before .check .ensures)
 
 pub apply-in-spec : {M : Type 1} → statement M
 apply-in-spec =
@@ -46,6 +51,7 @@ apply-in-spec =
     enum-known-n
     apply-checked-requires
     enum-known-refusal
+    refused-requires
     same-length
     returns
     returns-2)
