@@ -9,7 +9,8 @@ nothing about it.
 The image is 64 bytes of identification, then ##TX, ##MD and ##CC blocks one behind the other, each at a multiple of 8. Before it stand the
 requests, numbers little-endian: how many in 8 bytes, then 64 bytes for each.
 A request has eight bytes each for the conversion's address, the kind of the value (its place in KINDS), the value's 64 bits or the length of a
-text, the visit limit, and the room for a text answer; then the text, filled up with zeros to 24 bytes.
+text, the visit limit, the room for a text answer, and the width of the signal, or 2^32 where it names none; then the text, filled up with zeros
+to 16 bytes.
 """
 import os
 import struct
@@ -17,6 +18,7 @@ import struct
 KINDS = ("unsigned", "signed", "float", "text", "other")
 TYPES = ("identity", "linear", "rational", "formula", "table interpolated", "table nearest", "range to value", "value to text", "range to text",
          "text to value", "text to text", "bit groups")
+NO_WIDTH = 2 ** 32
 HERE = os.path.dirname(os.path.abspath(__file__))
 
 blocks = []  # (label, size in bytes, function of the addresses that gives the bytes)
@@ -60,13 +62,13 @@ def conversion(label, kind, name="", unit="", comment="", inverse="", refs=(), v
     conversions.append((label, kind, name, unit))
 
 
-def request(where, kind, value=0, limit=4096, room=4096):
+def request(where, kind, value=0, limit=4096, room=4096, width=NO_WIDTH):
     """A value for the conversion with a label, or at an address. Limit and room are the usual ones if they are not given."""
     text = value.encode() if kind == "text" else b""
     bits = {"unsigned": "<Q", "signed": "<q", "float": "<d", "text": "<Q", "other": "<Q"}[kind]
-    assert len(text) <= 24 and room <= 4096
+    assert len(text) <= 16 and room <= 4096
     body = struct.pack("<Q", KINDS.index(kind)) + struct.pack(bits, len(text) if kind == "text" else value)
-    requests.append((where, body + struct.pack("<QQ", limit, room) + text.ljust(24, b"\0")))
+    requests.append((where, body + struct.pack("<QQQ", limit, room, width) + text.ljust(16, b"\0")))
 
 
 for text in ("Engine hours", "h", "Torque", "Nm", "at the rear shaft", "Raw torque", "Fuel rate", "l/h", "Slip", "%", "100*(X1-0.3)/X1"):
@@ -119,6 +121,14 @@ for text in ("Hydraulic flow", "slow", "fast"):
 # The last range has no upper bound, so that the table is malformed: the first reference decides.
 conversion("flow", 8, name="Hydraulic flow", refs=("slow", "fast"), values=(0.0, 10.0, 10.0))
 
+for text in ("Implement status", "Hitch", "floating", "Valve", "open", "Alarm", "overload"):
+    plain(b"##TX", text)
+# A signed signal of 4 bits: the alarm's bits 4 and 5 are those of a signal that has more.
+conversion("status hitch", 7, name="Hitch", refs=("floating",), values=(3.0,))
+conversion("status valve", 7, name="Valve", refs=("open",), values=(12.0,))
+conversion("status alarm", 7, name="Alarm", refs=("overload",), values=(48.0,))
+conversion("status", 11, name="Implement status", refs=("status hitch", "status valve", "status alarm"), values=(3, 12, 48))
+
 request("linear", "signed", -3)
 request("linear", "unsigned", 8)
 request("linear", "float", 2.5)
@@ -163,6 +173,12 @@ request("groups", "unsigned", 6, room=14)
 request("groups", "unsigned", 6, room=13)
 request("groups", "unsigned", 6, limit=2)
 request("groups", "unsigned", 6, limit=1)
+# -1 has 4 bits here, and 64 where no width says so.
+request("status", "signed", -1, width=4)
+request("status", "signed", -1, width=64)
+request("status", "signed", -1)
+request("status", "signed", -5, width=4)
+request("status", "signed", -1, width=65)
 request("maker", "unsigned", 7)
 request("vendor", "unsigned", 7)
 request("seat", "unsigned", 1)
@@ -208,6 +224,10 @@ REMARKS = {
     "beacon": "its second text has no value",
     "seat": "a loop with the next one: 6 Loop",
     "seat again": "a loop with the one before: 6 Loop",
+    "status hitch": "the bits 0 and 1 of the bit groups below",
+    "status valve": "the bits 2 and 3",
+    "status alarm": "the bits 4 and 5, which a signal of 4 bits does not have",
+    "status": "a signed signal of 4 bits: -1 shows no alarm at width 4",
     "flow": "its last range has no upper bound: a malformed table, and the first text for every number",
 }
 

@@ -3,10 +3,12 @@ use crate::build::ADDRESS;
 use crate::build::LIMIT;
 use crate::build::ROOM;
 use crate::build::SIZE;
+use crate::build::WIDTH;
 use crate::say;
 use lines::parts::part;
 use lines::parts::room;
 use lines::parts::word;
+use lines::request::Request;
 use rules::number::Value;
 use tree::Checked;
 
@@ -25,21 +27,20 @@ fn limit_of(mem: &[u8]) -> u32 {
     (word(mem, LIMIT) % 4294967296) as u32
 }
 
-fn answer(mem: &[u8], v: Value, text: &[u8], lent: &mut [u8]) {
-    let a = conversion::logic::apply(
-        image_of(mem),
-        word(mem, ADDRESS),
-        limit_of(mem),
-        v,
-        text,
-        lent,
-    );
+fn answer(mem: &[u8], r: Request, text: &[u8], lent: &mut [u8]) {
+    let a = r.ask(word(mem, WIDTH), image_of(mem), text, lent);
     say::applied(a, lent);
 }
 
-pub fn apply(mem: &[u8], v: Value, text: &[u8]) {
+pub fn apply(mem: &[u8], value: Value, text: &[u8]) {
     let mut out = [say::BEFORE; 4096];
-    answer(mem, v, text, room(&mut out, 0, word(mem, ROOM) as usize));
+    let r = Request {
+        address: word(mem, ADDRESS),
+        value,
+        limit: limit_of(mem),
+        room: word(mem, ROOM) as usize,
+    };
+    answer(mem, r, text, room(&mut out, 0, r.room));
 }
 
 pub fn translate<'a>(mem: &'a [u8], question: &'a [u8]) {

@@ -128,7 +128,7 @@ pub fn bad(line: &[u8]) {
     io::write_all(1, part(line, 1, line.len()));
 }
 
-// Its number, the name that document 01 has for that if it is asked, and its address if it carries one.
+// Its number, its name if that is asked, and its address if it carries one.
 pub fn refusal(r: Refusal, is_named: bool) {
     labelled(REFUSED, r.number() as u64);
     if is_named {

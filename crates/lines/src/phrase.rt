@@ -11,8 +11,8 @@ pub fn say(phrases: &[u8], k: usize) {
     }
 }
 
-// The names of the refusals, as document 01 has them, by its numbers.
-const NAMES: [u8; 200] = *b"00||................\
+// The names of the refusals by their numbers.
+const NAMES: [u8; 240] = *b"00||................\
     01| Outside|........\
     02| NotConversion|..\
     03| Limit|..........\
@@ -21,7 +21,9 @@ const NAMES: [u8; 200] = *b"00||................\
     06| Loop|...........\
     07| Formula|........\
     08| Room|...........\
-    09| Count|..........";
+    09| Count|..........\
+    10||................\
+    11| Width|..........";
 
 pub fn name(number: usize) {
     say(&NAMES, number);

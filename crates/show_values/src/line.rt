@@ -8,7 +8,6 @@ use blocks::Parsed;
 use common::text::Text;
 use common::text::text_of;
 use conversion::logic::Answer;
-use conversion::logic::apply;
 use lines::decimal;
 use lines::parts::part;
 use lines::parts::room;
@@ -20,6 +19,9 @@ use rules::number::Value;
 const LIMIT: u32 = 4096;
 
 const ROOM: usize = 4096;
+
+// A line names the width of a signal where the request has one.
+const NO_WIDTH: u64 = 4294967296;
 
 // The links to a conversion's name and unit.
 struct Links {
@@ -74,7 +76,11 @@ fn value(v: Value, text: &[u8]) {
     }
 }
 
-fn limits(r: Request) {
+fn limits(r: Request, width: u64) {
+    if width != NO_WIDTH {
+        labelled(say::WIDTH, width);
+        say(say::CLOSE);
+    }
     if r.limit != LIMIT {
         labelled(say::LIMIT, r.limit as u64);
         say(say::CLOSE);
@@ -134,19 +140,19 @@ fn counts(checked: u32, applied: u32, malformed: bool) {
 fn text_in(request: &[u8]) -> &[u8] {
     let length = word(request, 16) as usize;
     match word(request, 8) {
-        3 => part(request, 40, std::num::wrapping_add_usize(40, length)),
-        _ => part(request, 40, 40),
+        3 => part(request, 48, std::num::wrapping_add_usize(48, length)),
+        _ => part(request, 48, 48),
     }
 }
 
 // The value is converted with the room that the request asks for, and the line is written.
-fn convert(image: &[u8], r: Request, text: &[u8], lent: &mut [u8]) {
+fn convert(image: &[u8], r: Request, width: u64, text: &[u8], lent: &mut [u8]) {
     let v = r.value;
     let links = links_of(image, r.address);
     title(image, links.name, r.address);
     value(v, text);
-    limits(r);
-    let x = apply(image, r.address, r.limit, v, text, lent);
+    limits(r, width);
+    let x = r.ask(width, image, text, lent);
     let a = x.answer;
     answer(image, a, v, links.unit, lent);
     counts(x.checked, x.applied, x.malformed);
@@ -155,5 +161,6 @@ fn convert(image: &[u8], r: Request, text: &[u8], lent: &mut [u8]) {
 pub fn write(image: &[u8], request: &[u8]) {
     let r = Request::read(request);
     let mut out = io::buffer();
-    convert(image, r, text_in(request), room(&mut out, 0, r.room));
+    let width = word(request, 40);
+    convert(image, r, width, text_in(request), room(&mut out, 0, r.room));
 }

@@ -2,9 +2,10 @@
 // blocks were checked and applied.
 //
 // Standard input has at most 65535 bytes, numbers little-endian: the number of requests in 8 bytes, the requests, 64 bytes each, and the image
-// up to the end. A request has eight bytes each for the conversion's address, the kind of the value, the value, the visit limit, and the room
-// for a text answer, at most 4096 bytes; then 24 bytes for the text of a value that is one, with zeros behind it. Kind 0 is unsigned, 1 signed in
-// two's complement, 2 a float by its 64 bits, 3 a text, whose length stands for the value, and 4 other.
+// up to the end. A request has eight bytes each for the conversion's address, the kind of the value, the value, the visit limit, the room for a
+// text answer, at most 4096 bytes, and the width of the signal, 2^32 where it names none; then 16 bytes for the text of a value that is one, with
+// zeros behind it. Kind 0 is unsigned, 1 signed in two's complement, 2 a float by its 64 bits, 3 a text, whose length stands for the value, and 4
+// other.
 mod line;
 mod say;
 

@@ -55,7 +55,9 @@ const ODD: usize = 25;
 
 const TABLE: usize = 26;
 
-const PHRASES: [u8; 540] = *b"00||................\
+pub const WIDTH: usize = 27;
+
+const PHRASES: [u8; 560] = *b"00||................\
     01| at |............\
     02|Address |........\
     03|: |..............\
@@ -81,7 +83,8 @@ const PHRASES: [u8; 540] = *b"00||................\
     23|, applied |......\
     24|)\n|..............\
     25|, odd range|.....\
-    26| table|..........";
+    26| table|..........\
+    27| (width |........";
 
 pub fn say(k: usize) {
     lines::phrase::say(&PHRASES, k);
