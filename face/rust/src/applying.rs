@@ -1,4 +1,5 @@
 //! A conversion applied to a value.
+use crate::mode::Mode;
 use crate::raw;
 use crate::refusal::{Refusal, Stopped, Visits};
 
@@ -7,7 +8,7 @@ use crate::refusal::{Refusal, Stopped, Visits};
 pub enum Value<'a> {
     /// An unsigned whole number.
     UnsignedInteger(u64),
-    /// A signed whole number. Bit groups see its 64 bits in two's complement.
+    /// A signed whole number. Bit groups see its 64 bits in two's complement, or as many low ones as the [`Mode`] says.
     SignedInteger(i64),
     /// A float.
     Float(f64),
@@ -140,7 +141,33 @@ impl Applied {
 /// # Ok::<(), Refusal>(())
 /// ```
 pub fn apply(image: &[u8], address: u64, limit: u32, value: Value<'_>, out: &mut [u8]) -> Result<Applied, Refusal> {
-    let applied = call(image, address, limit, value, out);
+    outcome(call(image, address, limit, value, out))
+}
+
+/// Applies as [`apply`] does, in a mode: bit groups see no more than the low bits that the signal has.
+///
+/// # Errors
+///
+/// 11 [`Refusal::Width`] where the width is 0 or above 64, before anything else is looked at; then the refusals of [`apply`].
+///
+/// ```
+/// use mdf_conversion::{apply_in, Mode, Refusal, Value};
+///
+/// let image = std::fs::read("../../samples/tractor.mdf").unwrap();
+/// let mut out = [0; 64];
+///
+/// // Transmission, bit groups, stands at 2488: its first group is bits 0 and 1, of which a signal of one bit has one.
+/// let transmission = apply_in(&image, 2488, 4096, Mode::width(1), Value::from(6u64), &mut out)?;
+/// assert_eq!(transmission.text(&out), Some(b"PTO".as_slice()));
+/// let refused = apply_in(&image, u64::MAX, 0, Mode::width(65), Value::from(6u64), &mut out);
+/// assert_eq!(refused, Err(Refusal::Width));
+/// # Ok::<(), Refusal>(())
+/// ```
+pub fn apply_in(image: &[u8], address: u64, limit: u32, mode: Mode, value: Value<'_>, out: &mut [u8]) -> Result<Applied, Refusal> {
+    outcome(call_in(image, address, limit, mode.raw(), value, out))
+}
+
+fn outcome(applied: raw::Applied) -> Result<Applied, Refusal> {
     let visits = Visits { checked: applied.checked, applied: applied.applied };
     let malformed = applied.malformed != 0;
     match applied.refusal {
@@ -162,6 +189,21 @@ fn call(image: &[u8], address: u64, limit: u32, value: Value<'_>, out: &mut [u8]
             Value::Float(number) => raw::mdf_apply_float(from, len, address, limit, number, to, room),
             Value::Text(text) => raw::mdf_apply_text(from, len, address, limit, text.as_ptr(), text.len(), to, room),
             Value::Other => raw::mdf_apply_other(from, len, address, limit, to, room),
+        }
+    }
+}
+
+fn call_in(image: &[u8], address: u64, limit: u32, mode: raw::Mode, value: Value<'_>, out: &mut [u8]) -> raw::Applied {
+    let (from, len) = (image.as_ptr(), image.len());
+    let (to, room) = (out.as_mut_ptr(), out.len());
+    // SAFETY: as in `call`.
+    unsafe {
+        match value {
+            Value::UnsignedInteger(number) => raw::mdf_apply_mode_unsigned(from, len, address, limit, mode, number, to, room),
+            Value::SignedInteger(number) => raw::mdf_apply_mode_signed(from, len, address, limit, mode, number, to, room),
+            Value::Float(number) => raw::mdf_apply_mode_float(from, len, address, limit, mode, number, to, room),
+            Value::Text(text) => raw::mdf_apply_mode_text(from, len, address, limit, mode, text.as_ptr(), text.len(), to, room),
+            Value::Other => raw::mdf_apply_mode_other(from, len, address, limit, mode, to, room),
         }
     }
 }

@@ -50,12 +50,14 @@ extern crate std;
 mod applying;
 mod block;
 mod checking;
+mod mode;
 mod raw;
 mod refusal;
 mod types;
 
-pub use applying::{apply, translate, Answer, Applied, Value};
+pub use applying::{apply, apply_in, translate, Answer, Applied, Value};
 pub use block::{ConversionBlock, PhysicalRange};
 pub use checking::check;
+pub use mode::Mode;
 pub use refusal::{Refusal, Stopped, Visits};
 pub use types::{ConversionType, UnknownType};

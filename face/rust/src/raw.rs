@@ -20,6 +20,12 @@ pub struct Applied {
 }
 
 #[repr(C)]
+#[derive(Clone, Copy)]
+pub struct Mode {
+    pub width: u32,
+}
+
+#[repr(C)]
 pub struct Shown {
     pub from_image: u32,
     pub start: u64,
@@ -83,6 +89,48 @@ extern "C" {
         out_len: usize,
     ) -> Applied;
     pub fn mdf_apply_other(image: *const u8, image_len: usize, address: u64, limit: u32, out: *mut u8, out_len: usize) -> Applied;
+    pub fn mdf_apply_mode_unsigned(
+        image: *const u8,
+        image_len: usize,
+        address: u64,
+        limit: u32,
+        mode: Mode,
+        value: u64,
+        out: *mut u8,
+        out_len: usize,
+    ) -> Applied;
+    pub fn mdf_apply_mode_signed(
+        image: *const u8,
+        image_len: usize,
+        address: u64,
+        limit: u32,
+        mode: Mode,
+        value: i64,
+        out: *mut u8,
+        out_len: usize,
+    ) -> Applied;
+    pub fn mdf_apply_mode_float(
+        image: *const u8,
+        image_len: usize,
+        address: u64,
+        limit: u32,
+        mode: Mode,
+        value: f64,
+        out: *mut u8,
+        out_len: usize,
+    ) -> Applied;
+    pub fn mdf_apply_mode_text(
+        image: *const u8,
+        image_len: usize,
+        address: u64,
+        limit: u32,
+        mode: Mode,
+        text: *const u8,
+        text_len: usize,
+        out: *mut u8,
+        out_len: usize,
+    ) -> Applied;
+    pub fn mdf_apply_mode_other(image: *const u8, image_len: usize, address: u64, limit: u32, mode: Mode, out: *mut u8, out_len: usize) -> Applied;
     pub fn mdf_translate(image: *const u8, image_len: usize, address: u64, limit: u32, question: *const u8, question_len: usize) -> Shown;
     pub fn mdf_parse(image: *const u8, image_len: usize, address: u64) -> Parsed;
     pub fn mdf_reference(image: *const u8, image_len: usize, address: u64, index: u64) -> Word;

@@ -63,10 +63,12 @@ pub enum Refusal {
     Room(Option<Stopped>),
     /// 9: more than 65,535 values to write.
     Count,
+    /// 11: the width of a [`Mode`](crate::Mode) is 0 or above 64.
+    Width,
 }
 
 impl Refusal {
-    /// The refusal's number, 1 to 9.
+    /// The refusal's number.
     #[must_use]
     pub fn number(&self) -> u32 {
         match self {
@@ -79,6 +81,7 @@ impl Refusal {
             Refusal::Formula(_) => 7,
             Refusal::Room(_) => 8,
             Refusal::Count => 9,
+            Refusal::Width => 11,
         }
     }
 
@@ -95,6 +98,7 @@ impl Refusal {
             Refusal::Formula(_) => "Formula",
             Refusal::Room(_) => "Room",
             Refusal::Count => "Count",
+            Refusal::Width => "Width",
         }
     }
 
@@ -108,7 +112,7 @@ impl Refusal {
             | Refusal::Short(address)
             | Refusal::Deep(address)
             | Refusal::Loop(address) => Some(address),
-            Refusal::Formula(_) | Refusal::Room(_) | Refusal::Count => None,
+            Refusal::Formula(_) | Refusal::Room(_) | Refusal::Count | Refusal::Width => None,
         }
     }
 
@@ -132,7 +136,7 @@ impl Refusal {
         }
     }
 
-    /// A refusal of the check or of parsing, by its number.
+    /// A refusal of the mode, of the check or of parsing, by its number.
     pub(crate) fn at(number: u32, address: u64) -> Refusal {
         match number {
             1 => Refusal::Outside(address),
@@ -141,6 +145,7 @@ impl Refusal {
             4 => Refusal::Short(address),
             5 => Refusal::Deep(address),
             6 => Refusal::Loop(address),
+            11 => Refusal::Width,
             _ => unreachable!("the archive refuses with the number {number}"),
         }
     }

@@ -4,7 +4,7 @@
 mod image;
 
 use image::Image;
-use mdf_conversion::{apply, check, translate, Answer, Applied, ConversionBlock, ConversionType, Refusal, Value, Visits};
+use mdf_conversion::{apply, apply_in, check, translate, Answer, Applied, ConversionBlock, ConversionType, Mode, Refusal, Value, Visits};
 
 #[test]
 fn the_text_of_an_answer() {
@@ -63,6 +63,10 @@ fn an_answer_that_is_dropped_is_warned_of() {
     let (give, answer) = (|| applied, || applied.answer);
     #[expect(unused_must_use)]
     apply(image, 0, 1, Value::Other, &mut []);
+    #[expect(unused_must_use)]
+    apply_in(image, 0, 1, Mode::STANDARD, Value::Other, &mut []);
+    #[expect(unused_must_use)]
+    Mode::width(4);
     #[expect(unused_must_use)]
     check(image, 0, 1);
     #[expect(unused_must_use)]

@@ -1,19 +1,23 @@
-//! Every line of document 01's "Cases", every refusal from 1 to 9, and malformed tables, through the safe functions.
+//! Every line of document 01's "Cases", every refusal from 1 to 9 and 11, malformed tables and widths, through the safe functions.
 #[allow(dead_code)]
 mod image;
 
 use image::Image;
-use mdf_conversion::{apply, check, translate, Answer, Applied, ConversionBlock, ConversionType, PhysicalRange, Refusal, Stopped, Value, Visits};
+use mdf_conversion::{
+    apply, apply_in, check, translate, Answer, Applied, ConversionBlock, ConversionType, Mode, PhysicalRange, Refusal, Stopped, Value, Visits,
+};
 
 const LIMIT: u32 = 4096;
 const FILL: u8 = 0xa5;
 
 use Value::{Float, Other, SignedInteger as Signed, Text, UnsignedInteger as Unsigned};
 
+type Outcome = Result<Applied, Refusal>;
+
 /// Applies with so much room in the middle of a larger buffer. All but the text of the answer has to stay as it was.
-fn apply_in(image: &Image, address: u64, limit: u32, value: Value<'_>, room: usize) -> (Result<Applied, Refusal>, Vec<u8>) {
+fn in_a_buffer(room: usize, apply: impl Fn(&mut [u8]) -> Outcome) -> (Outcome, Vec<u8>) {
     let mut buffer = vec![FILL; room + 64];
-    let outcome = apply(&image.bytes, address, limit, value, &mut buffer[32..32 + room]);
+    let outcome = apply(&mut buffer[32..32 + room]);
     let length = match outcome {
         Ok(Applied { answer: Answer::Text(length), .. }) => length,
         _ => 0,
@@ -22,6 +26,21 @@ fn apply_in(image: &Image, address: u64, limit: u32, value: Value<'_>, room: usi
     buffer[32..32 + length].fill(FILL);
     assert!(buffer.iter().all(|byte| *byte == FILL), "a byte outside the answer has changed");
     (outcome, text)
+}
+
+fn apply_at(image: &Image, address: u64, limit: u32, mode: Mode, value: Value<'_>, room: usize) -> (Outcome, Vec<u8>) {
+    in_a_buffer(room, |out| apply_in(&image.bytes, address, limit, mode, value, out))
+}
+
+/// Applies without a mode. In the standard one the answer has the same bits, and a width that is none is refused before all else.
+fn apply_within(image: &Image, address: u64, limit: u32, value: Value<'_>, room: usize) -> (Outcome, Vec<u8>) {
+    let plain = in_a_buffer(room, |out| apply(&image.bytes, address, limit, value, out));
+    let standard = apply_at(image, address, limit, Mode::STANDARD, value, room);
+    assert_eq!(format!("{standard:?}"), format!("{plain:?}"));
+    for width in [0, 65, u32::MAX] {
+        assert_eq!(apply_at(image, address, limit, Mode::width(width), value, room), (Err(Refusal::Width), Vec::new()));
+    }
+    plain
 }
 
 fn visits(checked: u32, applied: u32) -> Visits {
@@ -34,12 +53,12 @@ fn stopped(checked: u32, applied: u32) -> Stopped {
 }
 
 fn answers(image: &Image, address: u64, value: Value<'_>, answer: Answer) {
-    let (outcome, _) = apply_in(image, address, LIMIT, value, 64);
+    let (outcome, _) = apply_within(image, address, LIMIT, value, 64);
     assert_eq!(outcome, Ok(Applied { answer, visits: visits(1, 1), malformed: false }));
 }
 
 fn text_and_table(image: &Image, address: u64, value: Value<'_>, text: &[u8], seen: Visits, malformed: bool) {
-    let (outcome, written) = apply_in(image, address, LIMIT, value, 64);
+    let (outcome, written) = apply_within(image, address, LIMIT, value, 64);
     assert_eq!(outcome, Ok(Applied { answer: Answer::Text(text.len()), visits: seen, malformed }));
     assert_eq!(written, text);
 }
@@ -52,7 +71,7 @@ fn gives_text(image: &Image, address: u64, value: Value<'_>, text: &[u8], seen: 
 fn is_unsound(image: &Image, address: u64, limit: u32, refusal: Refusal) {
     assert_eq!(check(&image.bytes, address, limit), Err(refusal));
     for value in [Unsigned(1), Signed(-1), Float(0.5), Text(b"x"), Other] {
-        assert_eq!(apply_in(image, address, limit, value, 64).0, Err(refusal));
+        assert_eq!(apply_within(image, address, limit, value, 64).0, Err(refusal));
     }
 }
 
@@ -81,7 +100,7 @@ fn rational() {
     let mut image = Image::new();
     let rational = image.block(2, &[], &[0.0, 1.0, 0.0, 0.0, 0.0, 0.0]);
     answers(&image, rational, Unsigned(4), Answer::Number(f64::INFINITY));
-    let (outcome, _) = apply_in(&image, rational, LIMIT, Unsigned(0), 0);
+    let (outcome, _) = apply_within(&image, rational, LIMIT, Unsigned(0), 0);
     assert!(matches!(outcome, Ok(Applied { answer: Answer::Number(x), .. }) if x.is_nan()));
 }
 
@@ -122,7 +141,7 @@ fn range_to_text_of_a_malformed_table() {
         }
         if length < 2 {
             let unchanged = Applied { answer: Answer::Unchanged, visits: visits(1, 1), malformed: true };
-            assert_eq!(apply_in(&image, unnamed, LIMIT, Unsigned(5), 64).0, Ok(unchanged));
+            assert_eq!(apply_within(&image, unnamed, LIMIT, Unsigned(5), 64).0, Ok(unchanged));
         } else {
             text_and_table(&image, unnamed, Unsigned(5), b"", visits(1, 1), odd);
         }
@@ -150,11 +169,11 @@ fn a_malformed_table_below_other_blocks() {
     text_and_table(&image, first, Unsigned(5), b"odd|even", visits(3, 3), true);
     gives_text(&image, none, Unsigned(5), b"even|even", visits(3, 3));
     let consulted = |checked, applied| Stopped { visits: visits(checked, applied), malformed: true };
-    assert_eq!(apply_in(&image, behind, LIMIT, Unsigned(5), 64).0, Err(Refusal::Formula(stopped(3, 2))));
-    assert_eq!(apply_in(&image, before, LIMIT, Unsigned(5), 64).0, Err(Refusal::Formula(consulted(3, 3))));
-    assert_eq!(apply_in(&image, second, LIMIT, Unsigned(5), 7).0, Err(Refusal::Room(Some(consulted(3, 3)))));
-    assert_eq!(apply_in(&image, odd_table, LIMIT, Unsigned(5), 2).0, Err(Refusal::Room(Some(consulted(1, 1)))));
-    assert_eq!(apply_in(&image, none, LIMIT, Unsigned(5), 8).0, Err(Refusal::Room(Some(stopped(3, 3)))));
+    assert_eq!(apply_within(&image, behind, LIMIT, Unsigned(5), 64).0, Err(Refusal::Formula(stopped(3, 2))));
+    assert_eq!(apply_within(&image, before, LIMIT, Unsigned(5), 64).0, Err(Refusal::Formula(consulted(3, 3))));
+    assert_eq!(apply_within(&image, second, LIMIT, Unsigned(5), 7).0, Err(Refusal::Room(Some(consulted(3, 3)))));
+    assert_eq!(apply_within(&image, odd_table, LIMIT, Unsigned(5), 2).0, Err(Refusal::Room(Some(consulted(1, 1)))));
+    assert_eq!(apply_within(&image, none, LIMIT, Unsigned(5), 8).0, Err(Refusal::Room(Some(stopped(3, 3)))));
     is_unsound(&image, under_key, 1, Refusal::Limit(odd_table));
 }
 
@@ -188,9 +207,59 @@ fn bit_groups() {
     let groups = image.named(11, 0, &[gear, pto], &[3, 12]);
     gives_text(&image, groups, Unsigned(6), b"Gear = Low|PTO", visits(2, 2));
     gives_text(&image, groups, Unsigned(0), b"PTO", visits(2, 2));
-    assert!(apply_in(&image, groups, LIMIT, Unsigned(6), 14).0.is_ok());
-    assert_eq!(apply_in(&image, groups, LIMIT, Unsigned(6), 13).0, Err(Refusal::Room(Some(stopped(2, 2)))));
-    assert_eq!(apply_in(&image, groups, LIMIT, Unsigned(6), 0).0, Err(Refusal::Room(Some(stopped(2, 2)))));
+    assert!(apply_within(&image, groups, LIMIT, Unsigned(6), 14).0.is_ok());
+    assert_eq!(apply_within(&image, groups, LIMIT, Unsigned(6), 13).0, Err(Refusal::Room(Some(stopped(2, 2)))));
+    assert_eq!(apply_within(&image, groups, LIMIT, Unsigned(6), 0).0, Err(Refusal::Room(Some(stopped(2, 2)))));
+}
+
+/// Bit groups with a mask below a width, one across it and one above it. What a group gets it shows: the bit below, the one above, both or none.
+fn masks_around(image: &mut Image, width: u32) -> u64 {
+    let (below, above) = (1 << (width - 1), 1u64.checked_shl(width).unwrap_or(0));
+    let texts = [image.text(b"none"), image.text(b"below"), image.text(b"both"), image.text(b"above")];
+    let shown = image.block(7, &texts, &[0.0, below as f64, (below | above) as f64, above as f64]);
+    image.named(11, 0, &[shown; 3], &[below, below | above, above])
+}
+
+fn shows(image: &Image, address: u64, width: u32, value: Value<'_>, text: &str, seen: Visits) {
+    let (outcome, written) = apply_at(image, address, LIMIT, Mode::width(width), value, 64);
+    assert_eq!(outcome, Ok(Applied { answer: Answer::Text(text.len()), visits: seen, malformed: false }));
+    assert_eq!(String::from_utf8(written).unwrap(), text);
+}
+
+#[test]
+fn only_the_low_bits_of_a_width_reach_the_masks() {
+    let mut image = Image::new();
+    for width in [1, 3, 4, 8, 31, 32, 33, 63] {
+        let groups = masks_around(&mut image, width);
+        for value in [Signed(-1), Unsigned(u64::MAX), Signed(-1 << (width - 1)), Unsigned(1 << (width - 1))] {
+            shows(&image, groups, width, value, "below|below|none", visits(4, 4));
+        }
+        shows(&image, groups, width, Unsigned(1 << width), "none|none|none", visits(4, 4));
+        shows(&image, groups, width + 1, Signed(-1), "below|both|above", visits(4, 4));
+        shows(&image, groups, 64, Signed(-1), "below|both|above", visits(4, 4));
+    }
+    let last = masks_around(&mut image, 64);
+    shows(&image, last, 64, Signed(-1), "below|below|none", visits(4, 4));
+    shows(&image, last, 63, Signed(-1), "none|none|none", visits(4, 4));
+}
+
+#[test]
+fn a_width_below_other_blocks() {
+    let mut image = Image::new();
+    let groups = masks_around(&mut image, 4);
+    let by_key = image.block(7, &[groups], &[-1.0]);
+    let by_range = image.block(8, &[groups], &[-1.0, -1.0]);
+    let by_mask = image.named(11, 0, &[groups], &[u64::MAX]);
+    for above in [by_key, by_range, by_mask] {
+        shows(&image, above, 4, Signed(-1), "below|below|none", visits(5, 5));
+        shows(&image, above, 64, Signed(-1), "below|both|above", visits(5, 5));
+    }
+    for value in [Float(-1.0), Text(b"-1"), Other] {
+        let unchanged = Applied { answer: Answer::Unchanged, visits: visits(4, 1), malformed: false };
+        assert_eq!(apply_at(&image, groups, LIMIT, Mode::width(4), value, 64).0, Ok(unchanged));
+    }
+    assert_eq!(apply_at(&image, groups, LIMIT, Mode::width(4), Signed(-1), 15).0, Err(Refusal::Room(Some(stopped(4, 4)))));
+    assert_eq!(Mode::default(), Mode::width(64));
 }
 
 #[test]
@@ -247,8 +316,8 @@ fn a_formula_keeps_its_visits() {
     let mut image = Image::new();
     let formula = image.block(3, &[], &[]);
     let groups = image.named(11, 0, &[formula, formula], &[3, 12]);
-    assert_eq!(apply_in(&image, formula, LIMIT, Float(5.0), 0).0, Err(Refusal::Formula(stopped(1, 1))));
-    assert_eq!(apply_in(&image, groups, LIMIT, Unsigned(6), 64).0, Err(Refusal::Formula(stopped(3, 2))));
+    assert_eq!(apply_within(&image, formula, LIMIT, Float(5.0), 0).0, Err(Refusal::Formula(stopped(1, 1))));
+    assert_eq!(apply_within(&image, groups, LIMIT, Unsigned(6), 64).0, Err(Refusal::Formula(stopped(3, 2))));
     answers(&image, formula, Text(b"no signal"), Answer::Unchanged);
 }
 
@@ -394,8 +463,9 @@ fn refusals_have_number_name_address_and_visits() {
         (Refusal::Formula(seen), "refused 7 Formula", Some(seen)),
         (Refusal::Room(Some(odd)), "refused 8 Room", Some(odd)),
         (Refusal::Count, "refused 9 Count", None),
+        (Refusal::Width, "refused 11 Width", None),
     ];
-    for (number, (refusal, shown, stopped)) in (1..).zip(all) {
+    for (number, (refusal, shown, stopped)) in (1..=9).chain([11]).zip(all) {
         assert_eq!((refusal.number(), refusal.to_string().as_str(), refusal.visits()), (number, shown, stopped.map(|s| s.visits)));
         assert_eq!(refusal.malformed(), stopped.is_some_and(|s| s.malformed));
         assert_eq!(refusal.address().is_some(), number <= 6);

@@ -155,7 +155,8 @@ fn help() {
     let ended = run(&["--help"]);
     assert_eq!((ended.status, ended.error.as_str()), (0, ""));
     for word in [
-        "IMAGE-FILE ADDRESS KIND VALUE [--limit N]",
+        "IMAGE-FILE ADDRESS KIND VALUE [--limit N] [--width N]",
+        "11 Width",
         "KIND -",
         "unsigned, signed, float or text",
         "refused 5 Deep at 1234",
@@ -188,6 +189,33 @@ fn a_limit_behind_a_blank_or_an_equals_sign() {
     complains(&on_sample("528 --limit=-1"), "--limit \"-1\" is no whole number from 0 to 4294967295");
     complains(&on_sample("528 --limits=1"), "\"--limits=1\" is no option");
     complains(&on_sample("528 --help=1"), "\"--help=1\" is no option");
+}
+
+#[test]
+fn a_signal_of_a_width() {
+    let (narrow, wide) = ("Hitch = floating|Valve = open", "Hitch = floating|Valve = open|Alarm = overload");
+    for width in ["--width 4", "--width=4"] {
+        prints(&format!("4288 signed -1 {width}"), 0, &format!("text {narrow}\nchecked 4 applied 4\n"));
+        prints(&format!("{width} 4288 unsigned 0xff"), 0, &format!("text {narrow}\nchecked 4 applied 4\n"));
+    }
+    for width in ["", "--width 64", "--width 6"] {
+        prints(&format!("4288 signed -1 {width}"), 0, &format!("text {wide}\nchecked 4 applied 4\n"));
+    }
+    prints("528 signed -3 --width 4", 0, "number -0.375 Nm\nchecked 1 applied 1\n");
+    let many = run_with(&on_sample("4288 signed - --width 4"), b"-1\n-5\n0\n");
+    assert_eq!((many.status, many.out), (0, format!("text {narrow}\ntext Hitch = floating\ntext \n")));
+}
+
+#[test]
+fn a_width_that_is_none() {
+    for width in [0, 65, u32::MAX] {
+        prints(&format!("4288 signed -1 --width {width}"), 3, "refused 11 Width\nchecked 0 applied 0\n");
+        prints(&format!("64 signed -1 --limit 0 --width {width}"), 3, "refused 11 Width\nchecked 0 applied 0\n");
+    }
+    complains(&on_sample("528 signed -3 --width"), "--width needs a number");
+    complains(&on_sample("528 signed -3 --width=4x"), "--width \"4x\" is no whole number from 0 to 4294967295");
+    complains(&on_sample("528 signed -3 --width 4294967296"), "--width \"4294967296\" is no whole number from 0 to 4294967295");
+    complains(&on_sample("4288 --width 4"), "--width goes with a KIND and a VALUE");
 }
 
 #[test]

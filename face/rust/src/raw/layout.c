@@ -23,6 +23,9 @@ int main(void) {
     FIELD(mdf_applied, applied);
     FIELD(mdf_applied, malformed);
     END();
+    BEGIN(mdf_mode);
+    FIELD(mdf_mode, width);
+    END();
     BEGIN(mdf_shown);
     FIELD(mdf_shown, from_image);
     FIELD(mdf_shown, start);

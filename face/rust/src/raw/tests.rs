@@ -1,5 +1,5 @@
 //! The structs have the layout that a C compiler gives those of the header.
-use super::{Applied, Block, Checked, Parsed, Shown, Word, Written};
+use super::{Applied, Block, Checked, Mode, Parsed, Shown, Word, Written};
 use core::mem::{align_of, offset_of, size_of};
 use std::format;
 use std::path::PathBuf;
@@ -18,6 +18,7 @@ macro_rules! line {
 fn lines_of_rust() -> String {
     line!("mdf_checked", Checked, refusal, visits, address)
         + &line!("mdf_applied", Applied, refusal, kind, number, length, address, checked, applied, malformed)
+        + &line!("mdf_mode", Mode, width)
         + &line!("mdf_shown", Shown, from_image, start, length)
         + &line!(
             "mdf_block",

@@ -1,6 +1,6 @@
 //! What the command is asked for.
 use crate::printing::brief;
-use mdf_conversion::Value;
+use mdf_conversion::{Mode, Value};
 use std::ffi::{OsStr, OsString};
 
 const USUAL_LIMIT: u32 = 4096;
@@ -26,6 +26,7 @@ pub struct Request<'a> {
     pub image_file: &'a OsStr,
     pub address: u64,
     pub limit: u32,
+    pub mode: Mode,
     pub task: Task<'a>,
 }
 
@@ -37,19 +38,23 @@ pub enum Arguments<'a> {
 
 /// Reads the arguments, or says in one line which one is wrong.
 pub fn read(words: &[OsString]) -> Result<Arguments<'_>, String> {
-    let (places, limit, before_dashes) = match sorted(words)? {
+    let sorted = match sorted(words)? {
         Sorted::Help => return Ok(Arguments::Help),
         Sorted::Version => return Ok(Arguments::Version),
-        Sorted::Places { places, limit, before_dashes } => (places, limit, before_dashes),
+        Sorted::Places(sorted) => sorted,
     };
-    let mut places = places.into_iter();
+    let mut places = sorted.places.into_iter();
     let image_file = places.next().ok_or("IMAGE-FILE is missing; mdf-convert --help shows the arguments")?;
     let address = address_of(places.next().ok_or("ADDRESS is missing")?)?;
-    let task = task_of(&mut places, before_dashes == Some(VALUE))?;
-    match places.next() {
-        Some(word) => Err(format!("{} is one argument too many", shown(word))),
-        None => Ok(Arguments::Request(Request { image_file, address, limit, task })),
+    let task = task_of(&mut places, sorted.before_dashes == Some(VALUE))?;
+    if let Some(word) = places.next() {
+        return Err(format!("{} is one argument too many", shown(word)));
     }
+    if matches!(task, Task::Describe) && sorted.width.is_some() {
+        return Err("--width goes with a KIND and a VALUE".into());
+    }
+    let mode = sorted.width.map_or(Mode::STANDARD, Mode::width);
+    Ok(Arguments::Request(Request { image_file, address, limit: sorted.limit, mode, task }))
 }
 
 // VALUE among the places.
@@ -58,32 +63,36 @@ const VALUE: usize = 3;
 enum Sorted<'a> {
     Help,
     Version,
-    /// The arguments that are no options, the limit, and how many of the former stand before `--`.
-    Places {
-        places: Vec<&'a OsStr>,
-        limit: u32,
-        before_dashes: Option<usize>,
-    },
+    Places(Places<'a>),
+}
+
+struct Places<'a> {
+    /// The arguments that are no options.
+    places: Vec<&'a OsStr>,
+    limit: u32,
+    width: Option<u32>,
+    /// How many of the places stand before `--`.
+    before_dashes: Option<usize>,
 }
 
 fn sorted(words: &[OsString]) -> Result<Sorted<'_>, String> {
-    let (mut places, mut limit, mut before_dashes) = (Vec::new(), USUAL_LIMIT, None);
+    let mut sorted = Places { places: Vec::new(), limit: USUAL_LIMIT, width: None, before_dashes: None };
     let mut words = words.iter().map(OsString::as_os_str);
     while let Some(word) = words.next() {
         match option_of(word.as_encoded_bytes()) {
             (b"--help" | b"-h", None) => return Ok(Sorted::Help),
             (b"--version", None) => return Ok(Sorted::Version),
-            (b"--limit", Some(given)) => limit = limit_of(given)?,
-            (b"--limit", None) => limit = limit_of(words.next().ok_or("--limit needs a number")?.as_encoded_bytes())?,
+            (b"--limit", given) => sorted.limit = number_of("--limit", given, &mut words)?,
+            (b"--width", given) => sorted.width = Some(number_of("--width", given, &mut words)?),
             (b"--", None) => {
-                before_dashes = Some(places.len());
-                places.extend(words.by_ref());
+                sorted.before_dashes = Some(sorted.places.len());
+                sorted.places.extend(words.by_ref());
             }
             (name, _) if name.starts_with(b"--") => return Err(format!("{} is no option", shown(word))),
-            _ => places.push(word),
+            _ => sorted.places.push(word),
         }
     }
-    Ok(Sorted::Places { places, limit, before_dashes })
+    Ok(Sorted::Places(sorted))
 }
 
 // The name of an option, and what is given with it behind an equals sign.
@@ -127,9 +136,11 @@ fn address_of(word: &OsStr) -> Result<u64, String> {
     })
 }
 
-fn limit_of(bytes: &[u8]) -> Result<u32, String> {
+// The number of an option: what is given with it, or the next word.
+fn number_of<'a>(option: &str, given: Option<&'a [u8]>, words: &mut impl Iterator<Item = &'a OsStr>) -> Result<u32, String> {
+    let bytes = given.or_else(|| words.next().map(OsStr::as_encoded_bytes)).ok_or(format!("{option} needs a number"))?;
     let number = digits(bytes, 10).ok().and_then(|number| u32::try_from(number).ok());
-    number.ok_or(format!("--limit {} is no whole number from 0 to {}", brief(bytes), u32::MAX))
+    number.ok_or(format!("{option} {} is no whole number from 0 to {}", brief(bytes), u32::MAX))
 }
 
 enum NoNumber {

@@ -3,7 +3,7 @@ use crate::arguments::{value_of, Kind};
 use crate::printing::{line, number};
 use crate::units::Units;
 use crate::Stop;
-use mdf_conversion::{apply, Answer, Applied, Refusal, Value};
+use mdf_conversion::{apply_in, Answer, Applied, Mode, Refusal, Value};
 use std::io::{BufRead, BufReader, Read, Write};
 
 const FIRST_ROOM: usize = 1 << 12;
@@ -16,18 +16,19 @@ pub struct Converter<'a> {
     image: &'a [u8],
     address: u64,
     limit: u32,
+    mode: Mode,
     out: Vec<u8>,
     units: Units<'a>,
 }
 
 impl<'a> Converter<'a> {
-    pub fn new(image: &'a [u8], address: u64, limit: u32) -> Converter<'a> {
-        Converter { image, address, limit, out: vec![0; FIRST_ROOM], units: Units::new(image) }
+    pub fn new(image: &'a [u8], address: u64, limit: u32, mode: Mode) -> Converter<'a> {
+        Converter { image, address, limit, mode, out: vec![0; FIRST_ROOM], units: Units::new(image) }
     }
 
     fn convert(&mut self, value: Value<'_>) -> Outcome {
         loop {
-            match apply(self.image, self.address, self.limit, value, &mut self.out) {
+            match apply_in(self.image, self.address, self.limit, self.mode, value, &mut self.out) {
                 Err(Refusal::Room(_)) if self.out.len() < MOST_ROOM => self.out.resize(2 * self.out.len(), 0),
                 outcome => return outcome,
             }
@@ -72,7 +73,7 @@ impl<'a> Converter<'a> {
     }
 }
 
-// A refusal of the check has no visits: 0 and 0.
+// A refusal of the width or the check has no visits: 0 and 0.
 fn visits(outcome: &Outcome) -> String {
     let visits = match outcome {
         Ok(applied) => applied.visits,

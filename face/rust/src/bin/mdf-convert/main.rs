@@ -18,11 +18,11 @@ use std::process::ExitCode;
 const HELP: &str = "\
 mdf-convert: converts values by a conversion (##CC block) of an MDF 4 file
 
-  mdf-convert IMAGE-FILE ADDRESS KIND VALUE [--limit N]   converts one value
-  mdf-convert IMAGE-FILE ADDRESS KIND - [--limit N]       converts each line of standard input
-  mdf-convert IMAGE-FILE ADDRESS [--limit N]              checks the conversion and shows its fields
-  mdf-convert --help                                      shows this text; so does -h
-  mdf-convert --version                                   shows the version
+  mdf-convert IMAGE-FILE ADDRESS KIND VALUE [--limit N] [--width N]   converts one value
+  mdf-convert IMAGE-FILE ADDRESS KIND - [--limit N] [--width N]       converts each line of standard input
+  mdf-convert IMAGE-FILE ADDRESS [--limit N]                          checks the conversion and shows its fields
+  mdf-convert --help                                                  shows this text; so does -h
+  mdf-convert --version                                               shows the version
 
   IMAGE-FILE  the file, a regular one: it is read once, as a whole
   ADDRESS     where the conversion stands in the file: decimal, or hexadecimal after 0x
@@ -30,6 +30,8 @@ mdf-convert: converts values by a conversion (##CC block) of an MDF 4 file
   VALUE       a value of that kind: a whole number, decimal or hexadecimal after 0x, a signed one with - or + before it or no sign;
               a float such as 2.5, -1e3, inf or nan; or a text
   --limit N   the most conversions that the check may visit, 4096 if not given; also --limit=N
+  --width N   how many bits the signal has, 1 to 64, 64 if not given; also --width=N: bit groups (type 11) see so many low bits of a whole
+              number, so that -1 of a signal of 4 bits has no bit 4
   --          no option follows; a VALUE right behind it is taken as it stands, be it -h, --limit or -
 
 A line of standard input ends with a newline, or with a carriage return and a newline: neither is part of the value.
@@ -66,6 +68,7 @@ the direction of writing, and of what is not UTF-8, each byte is written \\xNN.
   6 Loop            a link back to a block on the current path
   7 Formula         applying reaches a formula with a number
   8 Room            the text has more than 268435456 bytes
+  11 Width          the width is 0 or above 64; before all others
 
 Exit status
   0  answered
@@ -126,7 +129,7 @@ fn in_words(kind: FileType) -> &'static str {
 // Answers whether nothing was refused.
 fn carry_out(request: Request<'_>, out: &mut impl Write) -> Result<bool, Stop> {
     let image = image_of(request.image_file)?;
-    let converter = Converter::new(&image, request.address, request.limit);
+    let converter = Converter::new(&image, request.address, request.limit, request.mode);
     match request.task {
         Task::Describe => describing::describe(&image, request.address, request.limit, out),
         Task::ConvertOne(value) => converter.convert_one(value, out),
