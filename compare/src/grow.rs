@@ -304,6 +304,9 @@ impl Grower<'_> {
         if self.formulas && below > 0 && self.r.chance(50) {
             return self.stopped_groups(below);
         }
+        if below > 0 && self.r.chance(20) {
+            return self.telling_groups();
+        }
         let n: usize = self.r.pick(&[0, 1, 2, 2, 3, 4]);
         let values = (0..n).map(|_| numbers::mask(self.r)).collect();
         let refs = self.r.pick(&[n, n, n, n + 1, n.saturating_sub(1)]);
@@ -321,6 +324,15 @@ impl Grower<'_> {
             refs.push(Link::To(self.block(body)));
         }
         Body { kind: 11, values, refs }
+    }
+
+    /// Groups that tell which bits reached them: under each a range to text with one text for 0 and another for all else.
+    fn telling_groups(&mut self) -> Body {
+        let n = 1 + self.r.below(4);
+        let values = (0..n).map(|_| numbers::narrow_mask(self.r)).collect();
+        let texts = [self.text(), self.text()].map(Link::To);
+        let shown = self.block(Body { kind: 8, values: vec![0; 2], refs: texts.to_vec() });
+        Body { kind: 11, values, refs: vec![Link::To(shown); n] }
     }
 
     /// A body with header, fixed links, flags, range and block length.

@@ -211,12 +211,20 @@ fn apply_ask(side: &dyn Side, scene: &Scene, ask: &Ask, block: &ConversionBlock,
     let ours = side.apply(&scene.image, scene.address, scene.limit, ask.value, &ask.text, &mut out);
     count_answer(block, ask.value, &ours, tally);
     same_answer(&ours, &out, given, &theirs, ask.room)?;
+    width_64_alike(side, scene, ask, &ours, &out)?;
     same("N of an application", ours.checked as u64, theirs::tree_size(block))?;
     if ask.value == Value::Text && block.cc_type.to_u8() == 10 {
         tally.add("crate, texts shown", "type 10");
         return shown_like(side, scene, ask, &theirs);
     }
     Ok(())
+}
+
+/// At width 64, which alone is compared with the crate, the entry with a width answers as the one without.
+fn width_64_alike(side: &dyn Side, scene: &Scene, ask: &Ask, ours: &Applied, out: &[u8]) -> Verdict {
+    let mut again = output(ask.room);
+    let wide = side.apply_at(64, &scene.image, scene.address, scene.limit, ask.value, &ask.text, &mut again);
+    same("width 64", (wide, &again[..]), (*ours, out))
 }
 
 fn count_answer(block: &ConversionBlock, value: Value, ours: &Applied, tally: &mut Tally) {
@@ -298,12 +306,31 @@ pub fn with_side(a: &dyn Side, b: &dyn Side, scene: &Scene, tally: &mut Tally) -
         tally.add("second reading, applications by refusal", ours.refusal);
         tally.add_if(checked.refusal == 0, "second reading, applications by blocks begun M", begun_class(ours.applied));
         tally.add_if(ours.malformed == 1, "second reading, applications that consulted a malformed table", says(&ours));
+        widths_alike(a, b, scene, ask, (&ours, &out_a), tally)?;
         if ask.value == Value::Text {
             let shown = a.translate(image, address, limit, &ask.text);
             same("the text shown", shown, b.translate(image, address, limit, &ask.text))?;
             tally.add("second reading, texts shown", if shown.from_image == 1 { "from the image" } else { "the question" });
         }
     }
+    Ok(())
+}
+
+/// The entry with a width, which the crate does not have. `plain` is the answer of the one without, and its output.
+fn widths_alike(a: &dyn Side, b: &dyn Side, scene: &Scene, ask: &Ask, plain: (&Applied, &[u8]), tally: &mut Tally) -> Verdict {
+    let (image, address, limit) = (&scene.image[..], scene.address, scene.limit);
+    let (mut out_a, mut out_b) = (output(ask.room), output(ask.room));
+    let ours = a.apply_at(ask.width, image, address, limit, ask.value, &ask.text, &mut out_a);
+    let other = b.apply_at(ask.width, image, address, limit, ask.value, &ask.text, &mut out_b);
+    same("the application at a width", (ours, &out_a), (other, &out_b))?;
+    untouched_behind(&ours, &out_a)?;
+    let changed = ours.refusal != 11 && (&ours, &out_a[..]) != plain;
+    let effect = match ours.refusal {
+        11 => "refused with 11",
+        _ if changed => "another answer than at width 64",
+        _ => "the answer of width 64",
+    };
+    tally.add("second reading, applications at a width", effect);
     Ok(())
 }
 

@@ -112,6 +112,19 @@ impl<S: Side> Guarded<S> {
     fn look(&self, lent: &Lent, before: &[u8], now: &[u8], back: bool, what: &'static str) {
         self.expect(lent.guard_stands(before.len(), back) && before == now, what);
     }
+
+    /// An application on lent buffers.
+    fn applied(&self, image: &[u8], text: &[u8], out: &mut [u8], call: impl Fn(&[u8], &[u8], &mut [u8]) -> Applied) -> Applied {
+        let back = self.turn();
+        let (lent, lent_text) = (self.image.lend(image, back), self.text.lend(text, back));
+        let lent_out = self.out.lend(out, back);
+        let answer = call(lent, lent_text, lent_out);
+        self.look(&self.image, image, lent, back, "apply: the image or its guard has changed");
+        self.look(&self.text, text, lent_text, back, "apply: the text or its guard has changed");
+        self.expect(self.out.guard_stands(out.len(), back), "apply: the guard of the output has changed");
+        out.copy_from_slice(lent_out);
+        answer
+    }
 }
 
 impl<S: Side> Side for Guarded<S> {
@@ -128,15 +141,11 @@ impl<S: Side> Side for Guarded<S> {
     }
 
     fn apply(&self, image: &[u8], address: u64, limit: u32, value: Value, text: &[u8], out: &mut [u8]) -> Applied {
-        let back = self.turn();
-        let (lent, lent_text) = (self.image.lend(image, back), self.text.lend(text, back));
-        let lent_out = self.out.lend(out, back);
-        let answer = self.side.apply(lent, address, limit, value, lent_text, lent_out);
-        self.look(&self.image, image, lent, back, "apply: the image or its guard has changed");
-        self.look(&self.text, text, lent_text, back, "apply: the text or its guard has changed");
-        self.expect(self.out.guard_stands(out.len(), back), "apply: the guard of the output has changed");
-        out.copy_from_slice(lent_out);
-        answer
+        self.applied(image, text, out, |image, text, out| self.side.apply(image, address, limit, value, text, out))
+    }
+
+    fn apply_at(&self, width: u32, image: &[u8], address: u64, limit: u32, value: Value, text: &[u8], out: &mut [u8]) -> Applied {
+        self.applied(image, text, out, |image, text, out| self.side.apply_at(width, image, address, limit, value, text, out))
     }
 
     fn translate(&self, image: &[u8], address: u64, limit: u32, question: &[u8]) -> Shown {

@@ -66,6 +66,12 @@ pub fn mask(r: &mut Random) -> u64 {
     }
 }
 
+/// One bit, or two neighbours, anywhere; mostly among the low ones.
+pub fn narrow_mask(r: &mut Random) -> u64 {
+    let at = if r.chance(50) { r.below(17) } else { r.below(64) };
+    r.pick(&[1, 3]) << at
+}
+
 pub fn text(r: &mut Random) -> Vec<u8> {
     if r.chance(85) {
         return r.pick(TEXTS).as_bytes().to_vec();
@@ -79,6 +85,18 @@ pub fn whole(r: &mut Random) -> u64 {
         4..=6 => r.below(24) as u64,
         7 => r.pick(MASKS),
         _ => r.next() >> r.below(64),
+    }
+}
+
+#[rustfmt::skip]
+const WIDTHS: &[u32] = &[0, 1, 3, 4, 8, 31, 32, 33, 63, 64, 65, u32::MAX];
+
+/// The width of a signal: an edge, a small one, or any from 1 to 64.
+pub fn width(r: &mut Random) -> u32 {
+    match r.below(10) {
+        0..=4 => r.pick(WIDTHS),
+        5..=7 => 1 + r.below(16) as u32,
+        _ => 1 + r.below(64) as u32,
     }
 }
 

@@ -1,5 +1,5 @@
 // The proved build, through its C face. A slice goes over as its pointer and its length.
-use crate::side::{Applied, Block, Checked, Parsed, Shown, Side, Value, Written};
+use crate::side::{Applied, Block, Checked, Mode, Parsed, Shown, Side, Value, Written};
 
 type Bytes = *const u8;
 
@@ -19,6 +19,48 @@ extern "C" {
         out_len: usize,
     ) -> Applied;
     fn mdf_apply_other(image: Bytes, image_len: usize, address: u64, limit: u32, out: *mut u8, out_len: usize) -> Applied;
+    fn mdf_apply_mode_unsigned(
+        image: Bytes,
+        image_len: usize,
+        address: u64,
+        limit: u32,
+        mode: Mode,
+        value: u64,
+        out: *mut u8,
+        out_len: usize,
+    ) -> Applied;
+    fn mdf_apply_mode_signed(
+        image: Bytes,
+        image_len: usize,
+        address: u64,
+        limit: u32,
+        mode: Mode,
+        value: i64,
+        out: *mut u8,
+        out_len: usize,
+    ) -> Applied;
+    fn mdf_apply_mode_float(
+        image: Bytes,
+        image_len: usize,
+        address: u64,
+        limit: u32,
+        mode: Mode,
+        value: f64,
+        out: *mut u8,
+        out_len: usize,
+    ) -> Applied;
+    fn mdf_apply_mode_text(
+        image: Bytes,
+        image_len: usize,
+        address: u64,
+        limit: u32,
+        mode: Mode,
+        text: Bytes,
+        text_len: usize,
+        out: *mut u8,
+        out_len: usize,
+    ) -> Applied;
+    fn mdf_apply_mode_other(image: Bytes, image_len: usize, address: u64, limit: u32, mode: Mode, out: *mut u8, out_len: usize) -> Applied;
     fn mdf_translate(image: Bytes, image_len: usize, address: u64, limit: u32, question: Bytes, question_len: usize) -> Shown;
     fn mdf_parse(image: Bytes, image_len: usize, address: u64) -> Parsed;
     fn mdf_write(block: Block, refs: *const u64, refs_len: usize, words: *const u64, words_len: usize, out: *mut u8, out_len: usize) -> Written;
@@ -40,6 +82,20 @@ impl Side for Ours {
                 Value::Float(v) => mdf_apply_float(i, n, address, limit, v, o, m),
                 Value::Text => mdf_apply_text(i, n, address, limit, text.as_ptr(), text.len(), o, m),
                 Value::Other(_) => mdf_apply_other(i, n, address, limit, o, m),
+            }
+        }
+    }
+
+    fn apply_at(&self, width: u32, image: &[u8], address: u64, limit: u32, value: Value, text: &[u8], out: &mut [u8]) -> Applied {
+        let (i, n, o, m) = (image.as_ptr(), image.len(), out.as_mut_ptr(), out.len());
+        let mode = Mode { width };
+        unsafe {
+            match value {
+                Value::Unsigned(v) => mdf_apply_mode_unsigned(i, n, address, limit, mode, v, o, m),
+                Value::Signed(v) => mdf_apply_mode_signed(i, n, address, limit, mode, v, o, m),
+                Value::Float(v) => mdf_apply_mode_float(i, n, address, limit, mode, v, o, m),
+                Value::Text => mdf_apply_mode_text(i, n, address, limit, mode, text.as_ptr(), text.len(), o, m),
+                Value::Other(_) => mdf_apply_mode_other(i, n, address, limit, mode, o, m),
             }
         }
     }

@@ -76,7 +76,7 @@ fn tell_fields(scene: &Scene) {
 fn tell(scene: &Scene) {
     println!("  address {} limit {} image of {} bytes", scene.address, scene.limit, scene.image.len());
     for ask in &scene.asks {
-        println!("  asked {:?} text {:?} room {}", ask.value, String::from_utf8_lossy(&ask.text), ask.room);
+        println!("  asked {:?} text {:?} room {} width {}", ask.value, String::from_utf8_lossy(&ask.text), ask.room, ask.width);
     }
     for (i, word) in scene.image.chunks(8).enumerate().filter(|(_, w)| w.iter().any(|&b| b != 0)) {
         let hex: Vec<String> = word.iter().map(|b| format!("{b:02x}")).collect();

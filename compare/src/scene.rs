@@ -18,6 +18,9 @@ pub const HOSTILE_EVERY: u64 = 1000;
 /// A limit that no grown tree reaches.
 const WIDE_LIMIT: u32 = 20_000;
 
+/// The widths are drawn apart, so that images and values are those that a seed had before there were widths.
+const WIDTHS: u64 = 0x7769_6474_6873;
+
 fn is_hostile(number: u64) -> bool {
     number % HOSTILE_EVERY == HOSTILE_EVERY - 1
 }
@@ -27,6 +30,8 @@ pub struct Ask {
     pub value: Value,
     pub text: Vec<u8>,
     pub room: usize,
+    /// The width of the signal, for the entry that takes one.
+    pub width: u32,
 }
 
 #[derive(Clone)]
@@ -51,8 +56,9 @@ pub struct Scene {
 impl Scene {
     pub fn new(seed: u64, number: u64) -> Scene {
         let mut r = Random::new(seed, number);
+        let mut widths = Random::new(seed ^ WIDTHS, number);
         if is_hostile(number) {
-            return Scene::hostile(&mut r);
+            return Scene::hostile(&mut r, &mut widths);
         }
         let grown = Grower::grow(&mut r);
         let mut laid = grown.plan.lay(&mut r);
@@ -74,13 +80,13 @@ impl Scene {
             let value = numbers::value(&mut r, &grown.palette, wants_text);
             let text = if value == Value::Text { numbers::question(&mut r, &grown.texts) } else { Vec::new() };
             let room = scene.room(value, &text, 600, &mut r);
-            scene.asks.push(Ask { value, text, room });
+            scene.asks.push(Ask { value, text, room, width: numbers::width(&mut widths) });
         }
         scene
     }
 
     /// A hostile image, which is not damaged; the room is mostly small.
-    fn hostile(r: &mut Random) -> Scene {
+    fn hostile(r: &mut Random, widths: &mut Random) -> Scene {
         let grown = hostile::grow(r);
         let laid = grown.plan.lay(r);
         let address = laid.places[grown.plan.root];
@@ -95,7 +101,7 @@ impl Scene {
             };
             let text = if value == Value::Text { numbers::question(r, &grown.texts) } else { Vec::new() };
             let room = if r.chance(60) { r.pick(&[64, 64, 64, 0, 1]) } else { scene.room(value, &text, 4000, r) };
-            scene.asks.push(Ask { value, text, room });
+            scene.asks.push(Ask { value, text, room, width: numbers::width(widths) });
         }
         scene
     }

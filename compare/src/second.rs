@@ -1,4 +1,4 @@
-// A second reading of document 01 and request [5], plain and slow: check, apply, parse, write and the type 10 entry. It judges the proved build
+// A second reading of document 01 and requests [2] and [5], plain and slow: check, apply, parse, write and the type 10 entry. It judges the proved build
 // where the crate has no say, and with one rule broken (`wrong`) it is a wrong build that the comparison has to catch.
 mod apply;
 mod block;
@@ -182,6 +182,44 @@ impl Second {
         }
         (answer.kind, answer.length) = (2, text.len() as u64);
     }
+
+    /// A signal has 1 to 64 bits.
+    fn is_width(&self, width: u32) -> bool {
+        match self.wrong {
+            Wrong::WidthZeroTaken => width <= 64,
+            Wrong::WidthAboveTaken => width >= 1,
+            Wrong::Width64Refused => (1..64).contains(&width),
+            _ => (1..=64).contains(&width),
+        }
+    }
+
+    /// Refusal 11; what the check says plays no part but in wrong builds.
+    fn width_refused(&self, checked: Result<u32, Refused>) -> Applied {
+        let ((refusal, address), visits) = match (self.wrong, checked) {
+            (Wrong::WidthAfterOutside, Err((1, address))) => ((1, address), 0),
+            (Wrong::WidthAfterCheck, Err(refused)) => (refused, 0),
+            (Wrong::WidthWithVisits, Ok(visits)) => ((11, 0), visits),
+            _ => ((11, 0), 0),
+        };
+        Applied { refusal, kind: 0, number: 0.0, length: 0, address, checked: visits, applied: 0, malformed: 0 }
+    }
+
+    /// Check, then application, of a signal of so many bits.
+    #[allow(clippy::too_many_arguments)]
+    fn applied(&self, width: u32, image: &[u8], address: u64, limit: u32, value: Value, text: &[u8], out: &mut [u8]) -> Applied {
+        match self.accepted(image, address, limit) {
+            Err((refusal, named)) => {
+                let root = self.opened(image, address).filter(|_| self.is(Wrong::OddTableOfRefused));
+                let malformed = root.is_some_and(|found| self.consults(&found, value)) as u32;
+                Applied { refusal, kind: 0, number: 0.0, length: 0, address: named, checked: 0, applied: 0, malformed }
+            }
+            Ok(checked) => {
+                let mut run = Application { second: self, image, text, most: out.len() + 1, begun: 0, longest: 0, malformed: false, width };
+                let says = run.apply(address, value);
+                self.settle(checked, run, says, out)
+            }
+        }
+    }
 }
 
 impl Side for Second {
@@ -193,18 +231,18 @@ impl Side for Second {
     }
 
     fn apply(&self, image: &[u8], address: u64, limit: u32, value: Value, text: &[u8], out: &mut [u8]) -> Applied {
-        match self.accepted(image, address, limit) {
-            Err((refusal, named)) => {
-                let root = self.opened(image, address).filter(|_| self.is(Wrong::OddTableOfRefused));
-                let malformed = root.is_some_and(|found| self.consults(&found, value)) as u32;
-                Applied { refusal, kind: 0, number: 0.0, length: 0, address: named, checked: 0, applied: 0, malformed }
-            }
-            Ok(checked) => {
-                let mut run = Application { second: self, image, text, most: out.len() + 1, begun: 0, longest: 0, malformed: false };
-                let says = run.apply(address, value);
-                self.settle(checked, run, says, out)
-            }
+        self.applied(64, image, address, limit, value, text, out)
+    }
+
+    fn apply_at(&self, width: u32, image: &[u8], address: u64, limit: u32, value: Value, text: &[u8], out: &mut [u8]) -> Applied {
+        if self.is_width(width) {
+            let value = if self.is(Wrong::WidthOfValue) { self.cut(value, width) } else { value };
+            return self.applied(width, image, address, limit, value, text, out);
         }
+        if self.is(Wrong::WidthTouchesOutput) && !out.is_empty() {
+            out[0] = 0;
+        }
+        self.width_refused(self.accepted(image, address, limit))
     }
 
     fn translate(&self, image: &[u8], address: u64, limit: u32, question: &[u8]) -> Shown {

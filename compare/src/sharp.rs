@@ -68,9 +68,9 @@ pub fn list() -> String {
     let mut lines = vec![
         "# Wrong builds".to_string(),
         String::new(),
-        "Each is the second reading (src/second.rs) with one rule of document 01, or of request [5] on malformed tables, broken. `make sharp` puts each"
+        "Each is the second reading (src/second.rs) with one rule of document 01, or of request [2] on widths or [5] on malformed tables, broken."
             .to_string(),
-        "in the place of ours, looks whether the comparison catches it, and prints how many it caught.".to_string(),
+        "`make sharp` puts each in the place of ours, looks whether the comparison catches it, and prints how many it caught.".to_string(),
         String::new(),
         "\"Crate\": the comparison with the crate has to catch it. \"Ours\": the crate has no such rule or no say, and the comparison with the"
             .to_string(),

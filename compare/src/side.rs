@@ -34,6 +34,12 @@ pub struct Applied {
 }
 
 #[repr(C)]
+#[derive(Clone, Copy, Debug)]
+pub struct Mode {
+    pub width: u32,
+}
+
+#[repr(C)]
 #[derive(Clone, Copy, Debug, PartialEq, Eq)]
 pub struct Shown {
     pub from_image: u32,
@@ -81,6 +87,10 @@ pub struct Written {
 pub trait Side {
     fn check(&self, image: &[u8], address: u64, limit: u32) -> Checked;
     fn apply(&self, image: &[u8], address: u64, limit: u32, value: Value, text: &[u8], out: &mut [u8]) -> Applied;
+
+    /// The entry with the width of the signal.
+    #[allow(clippy::too_many_arguments)]
+    fn apply_at(&self, width: u32, image: &[u8], address: u64, limit: u32, value: Value, text: &[u8], out: &mut [u8]) -> Applied;
     fn translate(&self, image: &[u8], address: u64, limit: u32, question: &[u8]) -> Shown;
     fn parse(&self, image: &[u8], address: u64) -> Parsed;
     fn write(&self, block: Block, refs: &[u64], words: &[u64], out: &mut [u8]) -> Written;

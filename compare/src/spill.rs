@@ -44,6 +44,12 @@ impl Side for Spills {
         answer
     }
 
+    fn apply_at(&self, width: u32, image: &[u8], address: u64, limit: u32, value: Value, text: &[u8], out: &mut [u8]) -> Applied {
+        let answer = RIGHT.apply_at(width, image, address, limit, value, text, out);
+        self.spill(image, text, out);
+        answer
+    }
+
     fn translate(&self, image: &[u8], address: u64, limit: u32, question: &[u8]) -> Shown {
         RIGHT.translate(image, address, limit, question)
     }

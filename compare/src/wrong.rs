@@ -1,4 +1,4 @@
-// The wrong builds: each is the second reading with one rule of document 01 or of request [5] broken. WRONG-BUILDS.md is this list in words.
+// The wrong builds: each is the second reading with one rule of document 01 or of requests [2] and [5] broken. WRONG-BUILDS.md is this list in words.
 
 /// Who has to catch a wrong build: the crate; the proved build where the crate has no such rule or no say; the clock where all answers are right.
 #[derive(Clone, Copy, Debug, PartialEq, Eq)]
@@ -169,4 +169,18 @@ wrong_builds! {
     OddTableLostAtRoom Ours "refusal 8 does not tell of a malformed table",
     OddTableWithTextOnly Ours "only a text answer tells of a malformed table",
     OddTableOfRefused Ours "a refusal of the check tells of a malformed table at the root",
+    WidthOneMore Ours "one bit more than the width reaches the masks",
+    WidthOneLess Ours "one bit less than the width reaches the masks",
+    WidthSignExtended Ours "the low bits of a width are sign-extended to 64 bits before they are masked",
+    WidthOfUnsignedOnly Ours "the width is not applied to signed integers",
+    WidthOfSignedOnly Ours "the width is not applied to unsigned integers",
+    WidthOfRootOnly Ours "the width is applied to bit groups at the root alone",
+    WidthOfValue Ours "the value itself is cut to the width, also for types 7 and 8 and all others",
+    Width64Refused Ours "a width of 64 is refused",
+    WidthZeroTaken Ours "a width of 0 is taken, and no bit reaches the masks",
+    WidthAboveTaken Ours "a width above 64 is taken as 64",
+    WidthAfterOutside Ours "refusal 1 comes before 11",
+    WidthAfterCheck Ours "all refusals of the check come before 11",
+    WidthWithVisits Ours "refusal 11 carries the visits of the check",
+    WidthTouchesOutput Ours "a call that is refused for its width has written to the output",
 }

@@ -24,6 +24,8 @@ pub struct Application<'a> {
     pub begun: u32,
     pub longest: usize,
     pub malformed: bool,
+    /// How many bits the signal has.
+    pub width: u32,
 }
 
 /// Where a reference leads.
@@ -104,14 +106,47 @@ impl Second {
             }
     }
 
-    /// The 64 bits that bit groups mask; none for a value that they leave unchanged.
-    fn group_bits(&self, value: Value) -> Option<u64> {
+    /// The bits that bit groups mask, as many low ones as the signal has (request [2]); none for a value that they leave unchanged.
+    fn group_bits(&self, value: Value, width: u32) -> Option<u64> {
+        match value {
+            Value::Unsigned(_) if self.is(Wrong::WidthOfSignedOnly) => self.group_bits_of_all(value),
+            Value::Signed(_) if self.is(Wrong::WidthOfUnsignedOnly) => self.group_bits_of_all(value),
+            _ => self.group_bits_of_all(value).map(|bits| self.low_bits(bits, width)),
+        }
+    }
+
+    fn group_bits_of_all(&self, value: Value) -> Option<u64> {
         match value {
             Value::Unsigned(n) => Some(n),
             Value::Signed(_) if self.is(Wrong::SignedGroupsUnchanged) => None,
             Value::Signed(n) => Some(n as u64),
             Value::Float(x) if self.is(Wrong::FloatGroups) => Some(x as u64),
             _ => None,
+        }
+    }
+
+    /// A wrong build's value, cut to the width.
+    pub fn cut(&self, value: Value, width: u32) -> Value {
+        match value {
+            Value::Unsigned(n) => Value::Unsigned(self.low_bits(n, width)),
+            Value::Signed(n) => Value::Signed(self.low_bits(n as u64, width) as i64),
+            other => other,
+        }
+    }
+
+    fn low_bits(&self, bits: u64, width: u32) -> u64 {
+        let width = match self.wrong {
+            _ if width >= 64 => return bits,
+            Wrong::WidthOneMore => width + 1,
+            Wrong::WidthOneLess => width - 1,
+            _ => width,
+        };
+        let low = if width < 64 { bits % (1 << width) } else { bits };
+        let is_negative = self.is(Wrong::WidthSignExtended) && low >> (width - 1) == 1;
+        if is_negative {
+            low | u64::MAX << width
+        } else {
+            low
         }
     }
 }
@@ -254,7 +289,8 @@ impl Application<'_> {
     }
 
     fn bit_groups(&mut self, found: &Found, value: Value) -> Result<Says, Formula> {
-        let Some(bits) = self.second.group_bits(value) else { return Ok(Says::Unchanged) };
+        let width = if self.is(Wrong::WidthOfRootOnly) && self.begun > 1 { 64 } else { self.width };
+        let Some(bits) = self.second.group_bits(value, width) else { return Ok(Says::Unchanged) };
         let (mut parts, mut length): (Vec<Vec<u8>>, usize) = (Vec::new(), 0);
         let (most, before) = (self.most, self.malformed);
         for (i, (&link, &word)) in found.refs.iter().zip(&found.values).enumerate() {
