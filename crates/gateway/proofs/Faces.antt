@@ -1,8 +1,6 @@
 -- What the entries' proofs share: the face of an answer and of what its call left in the lent output, the order of a shown part, the face of a word
--- that is read by place; and that C's truth of a range comes back as it was.
--- Assumes nothing.
-use mathlib.Core.Path.{_≡_, refl, sym, ap, _∙_}
-use mathlib.Core.Bool.{Bool, true, false}
+-- that is read by place. Assumes nothing.
+use mathlib.Core.Path.{_≡_, sym, ap, _∙_}
 use mathlib.Core.List.{List}
 use Prim.Native.Nat.{ℕ}
 use Rattle.common.specs.declared.refusal.Refusal.{Refusal}
@@ -18,13 +16,13 @@ use Rattle.conversion.specs.declared.shown.Shown.{Shown}
 use Rattle.conversion.specs.declared.shown.Shown.the-variants.{Part, Question}
 use Rattle.writer.specs.Write.{WriteCall, writeCall}
 use Rattle.writer.specs.declared.Written.{Written}
-use Rattle.gateway.specs.Checked.{Ordered}
-use Rattle.gateway.specs.Applied.{appliedFace, face, callFace}
-use Rattle.gateway.specs.Block.{writtenFace, faceWrote, writingFace, flagOf, isSet}
-use Rattle.gateway.specs.Place.{wordFace, unreadFace, readFace, placeFace}
-use Rattle.gateway.specs.declared.applied.MdfApplied.{MdfApplied}
-use Rattle.gateway.specs.declared.place.MdfWord.{MdfWord}
-use Rattle.gateway.specs.declared.written.MdfWritten.{MdfWritten}
+use Rattle.faces.specs.Checked.{Ordered}
+use Rattle.faces.specs.Applied.{appliedFace, face, callFace}
+use Rattle.faces.specs.Block.{writtenFace, faceWrote, writingFace}
+use Rattle.faces.specs.Place.{wordFace, unreadFace, readFace, placeFace}
+use Rattle.faces.specs.declared.applied.MdfApplied.{MdfApplied}
+use Rattle.faces.specs.declared.place.MdfWord.{MdfWord}
+use Rattle.faces.specs.declared.written.MdfWritten.{MdfWritten}
 
 -- the face of a call's answer, with the output that the call left, is the face of the call
 pub faced : (r : Applied) (out : List ℕ) (c : Call) (m : MdfApplied) → call r out ≡ c → m ≡ appliedFace r → face m out ≡ callFace c
@@ -48,8 +46,3 @@ placed read img a i p b w m parse whole word shown =
 pub unplaced : (read : List ℕ → Block → ℕ → Word) (img : List ℕ) (a i : ℕ) (p : Parsed) (r : Refusal) (m : MdfWord) → p ≡ parsed img a → p ≡ Refused r → m ≡ unreadFace r → m ≡ placeFace read img a i
 unplaced read img a i p r m parse refused shown =
     shown ∙ ap (readFace (λ (x : Block). read img x i)) (sym refused ∙ parse)
-
--- a range that was parsed is a range as given again, and none is none
-pub ranged-again : (b : Bool) → isSet (flagOf b) ≡ b
-ranged-again true = refl
-ranged-again false = refl

@@ -1,19 +1,14 @@
 // Applying in a mode, one function for each kind of value, as in `applied`.
-use crate::applied::MdfApplied;
-use crate::applied::applied_face;
+use faces::applied::MdfApplied;
+use faces::applied::MdfMode;
+use faces::applied::applied_face;
 use modes::apply_at;
 use rules::number::Value;
 ghost use mathlib.Core.Path.{_≡_};
 ghost use mathlib.Core.List.{[]};
 ghost use Rattle.rules.specs.declared.number.Value.the-variants.{Unsigned, Signed, Float, Text, Other};
 ghost use Rattle.modes.specs.Width.{applyingAt};
-ghost use Rattle.gateway.specs.Applied.{face, callFace};
-
-// `width`: how many bits the signal has.
-#[repr(C)]
-pub struct MdfMode {
-    pub width: u32,
-}
+ghost use Rattle.faces.specs.Applied.{face, callFace};
 
 #[no_mangle]
 pub extern "C" fn mdf_apply_mode_unsigned(

@@ -1,6 +1,6 @@
 -- `gateway::checked::mdf_check` meets its contract. Assumes nothing.
 use mathlib.Core.Path.{ap, _∙_}
-use Rattle.gateway.specs.Checked.{checkedFace}
+use Rattle.faces.specs.Checked.{checkedFace}
 use borrow.Author.Needs.{needs}
 use Rattle.gateway.proofs.checked.mdf_check.Statement.{statement}
 use Rattle.gateway.proofs.checked.mdf_check.Tie as tie

@@ -3,7 +3,7 @@ use mathlib.Core.Path.{ap, _∙_}
 use lib.ListN.{length}
 use denote.Ref.{now}
 use Rattle.conversion.specs.declared.shown.Shown.{Shown}
-use Rattle.gateway.specs.Checked.{shownFace}
+use Rattle.faces.specs.Checked.{shownFace}
 use Rattle.gateway.proofs.Faces.{ordered}
 use borrow.Author.Needs.{needs}
 use Rattle.gateway.proofs.checked.mdf_translate.Statement.{statement}
