@@ -6,6 +6,8 @@ pub enum Input {
     Signed(Vec<i64>),
     Float(Vec<f64>),
     Text(Vec<String>),
+    /// Unsigned, by the entry with a mode, at width 64, which alone the crate knows.
+    Moded(Vec<u64>),
 }
 
 pub struct Case {
@@ -33,6 +35,7 @@ fn numbers(image: &mut Image, list: &mut Vec<Case>) {
     let thousand = || Input::Unsigned((0..1000).collect());
     let linear = image.block(1, &[], &[0.0, 0.125]);
     add("1 linear", linear, thousand());
+    add("1 linear, in a mode", linear, Input::Moded((0..1000).collect()));
     add("1 linear, signed", linear, Input::Signed((-500..500).collect()));
     add("1 linear, of every size", linear, Input::Unsigned(of_every_size()));
     add("2 rational", image.block(2, &[], &[0.0, 1.0, 0.5, 0.0, 0.0, 3.0]), thousand());
@@ -60,7 +63,9 @@ fn words(image: &mut Image, linear: u64, list: &mut Vec<Case>) {
     let gear = image.text("Gear");
     let values: Vec<u64> = steps(16).iter().map(|v| v.to_bits()).collect();
     let group = image.words(7, gear, &names, &values);
-    add("11 bit groups, 2 groups", image.words(11, 0, &[group, names[3]], &[15, 240]), Input::Unsigned((0..16).collect()));
+    let groups = image.words(11, 0, &[group, names[3]], &[15, 240]);
+    add("11 bit groups, 2 groups", groups, Input::Unsigned((0..16).collect()));
+    add("11 bit groups, 2 groups, in a mode", groups, Input::Moded((0..16).collect()));
     add("1 under 7", image.block(7, &[names[0], linear], &[1e9]), Input::Unsigned((0..1000).collect()));
 }
 

@@ -12,6 +12,8 @@ const ROOM: usize = 64;
 enum Call {
     Check,
     Number(u64),
+    /// Signed, by the entry with a mode, at a width.
+    AtWidth(i64, u32),
     Text(&'static str),
     Translate(&'static str),
     Reference(u64),
@@ -39,6 +41,8 @@ pub const ALL: &[Hostile] = &[
         says: "9 levels of bit groups, each block twice to the next, all other groups to one long ##TX",
         build: groups_in_groups,
     },
+    Hostile { name: "narrow-groups", says: "the same, signed -1 at width 4, by mdf_apply_mode_signed", build: narrow_groups },
+    Hostile { name: "no-width", says: "the same, at width 65: refused with 11", build: no_width },
     Hostile { name: "deep-groups", says: "21 levels of bit groups, all groups but the last to one long ##TX", build: deep_groups },
     Hostile { name: "groups", says: "bit groups, all groups to one long ##TX", build: groups },
     Hostile { name: "choices", says: "bit groups, all groups to one type 7 that chooses one long ##TX", build: choices },
@@ -73,6 +77,7 @@ impl Asked {
             match self.call {
                 Call::Check => look(unsafe { ours::mdf_check(p, l, at, limit) }),
                 Call::Number(v) => look(unsafe { ours::mdf_apply_unsigned(p, l, at, limit, v, o, ROOM) }),
+                Call::AtWidth(v, width) => look(unsafe { ours::mdf_apply_mode_signed(p, l, at, limit, ours::Mode { width }, v, o, ROOM) }),
                 Call::Text(t) => look(unsafe { ours::mdf_apply_text(p, l, at, limit, t.as_ptr(), t.len(), o, ROOM) }),
                 Call::Translate(t) => look(unsafe { ours::mdf_translate(p, l, at, limit, t.as_ptr(), t.len()) }),
                 Call::Reference(i) => look(unsafe { ours::mdf_reference(p, l, at, i) }),
@@ -102,13 +107,25 @@ fn of_groups(image: &mut Image, refs: &[u64]) -> u64 {
 }
 
 fn groups_in_groups(s: usize) -> Asked {
+    nested_groups(s, Call::Number(1))
+}
+
+fn narrow_groups(s: usize) -> Asked {
+    nested_groups(s, Call::AtWidth(-1, 4))
+}
+
+fn no_width(s: usize) -> Asked {
+    nested_groups(s, Call::AtWidth(-1, 65))
+}
+
+fn nested_groups(s: usize, call: Call) -> Asked {
     let mut image = Image::new();
     let text = long(&mut image, 2000 * s);
     let mut at = of_groups(&mut image, &vec![text; 16 * s + 2]);
     for _ in 1..9 {
         at = of_groups(&mut image, &[vec![at, at], vec![text; 16 * s]].concat());
     }
-    asked(image, at, Call::Number(1))
+    asked(image, at, call)
 }
 
 fn deep_groups(s: usize) -> Asked {

@@ -79,6 +79,9 @@ impl Bench {
             Input::Text(list) => turns(list, n).for_each(|t| {
                 black_box(&unsafe { ours::mdf_apply_text(p, l, at, LIMIT, t.as_ptr(), t.len(), o, m) });
             }),
+            Input::Moded(list) => turns(list, n).for_each(|v| {
+                black_box(&unsafe { ours::mdf_apply_mode_unsigned(p, l, at, LIMIT, ours::Mode { width: 64 }, *v, o, m) });
+            }),
         }
     }
 
@@ -213,7 +216,7 @@ fn goals_of(name: &str, resolved: f64, whole: f64, goals: &mut Vec<Goal>) {
 /// Each of n values in turn, as the crate takes them.
 fn each(input: &Input, n: usize, mut apply: impl FnMut(DecodedValue)) {
     match input {
-        Input::Unsigned(list) => turns(list, n).for_each(|v| apply(DecodedValue::UnsignedInteger(*v))),
+        Input::Unsigned(list) | Input::Moded(list) => turns(list, n).for_each(|v| apply(DecodedValue::UnsignedInteger(*v))),
         Input::Signed(list) => turns(list, n).for_each(|v| apply(DecodedValue::SignedInteger(*v))),
         Input::Float(list) => turns(list, n).for_each(|v| apply(DecodedValue::Float(*v))),
         Input::Text(list) => turns(list, n).for_each(|t| apply(DecodedValue::String(t.clone()))),

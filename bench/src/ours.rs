@@ -14,6 +14,12 @@ pub struct Applied {
 }
 
 #[repr(C)]
+#[derive(Clone, Copy)]
+pub struct Mode {
+    pub width: u32,
+}
+
+#[repr(C)]
 pub struct Checked {
     pub refusal: u32,
     pub visits: u32,
@@ -49,6 +55,26 @@ extern "C" {
         limit: u32,
         text: *const u8,
         text_len: usize,
+        out: *mut u8,
+        out_len: usize,
+    ) -> Applied;
+    pub fn mdf_apply_mode_unsigned(
+        image: *const u8,
+        image_len: usize,
+        address: u64,
+        limit: u32,
+        mode: Mode,
+        value: u64,
+        out: *mut u8,
+        out_len: usize,
+    ) -> Applied;
+    pub fn mdf_apply_mode_signed(
+        image: *const u8,
+        image_len: usize,
+        address: u64,
+        limit: u32,
+        mode: Mode,
+        value: i64,
         out: *mut u8,
         out_len: usize,
     ) -> Applied;

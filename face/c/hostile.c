@@ -68,6 +68,11 @@ static mdf_applied of_number(uint64_t at, uint64_t value) {
     return mdf_apply_unsigned(built, built_len, at, LIMIT, value, out, sizeof out);
 }
 
+static mdf_applied of_signed(uint64_t at, int64_t value, uint32_t width) {
+    mdf_mode mode = {.width = width};
+    return mdf_apply_mode_signed(built, built_len, at, LIMIT, mode, value, out, sizeof out);
+}
+
 static mdf_applied of_x(uint64_t at) {
     return mdf_apply_text(built, built_len, at, LIMIT, (const uint8_t *)"x", 1, out, sizeof out);
 }
@@ -94,6 +99,9 @@ static void groups_in_groups(void) {
     uint64_t at = groups_of(long_text, long_text, long_text, 64);
     for (int level = 1; level < 13; level++) at = groups_of(at, long_text, at, 66);
     expect_room(of_number(at, 1), 8191, 8191);
+    expect_room(of_signed(at, -1, 4), 8191, 8191);
+    mdf_applied a = of_signed(at, -1, 0);
+    expect(a.refusal == MDF_REFUSED_WIDTH && a.kind == MDF_KIND_REFUSED && a.checked == 0 && a.applied == 0 && untouched(0));
 }
 
 static void deep_groups(void) {

@@ -28,6 +28,7 @@ static volatile uint32_t refusal;
 
 static void nothing(void) { answer = apply_no_block(image, built_len, root, LIMIT, 1, out, sizeof out); }
 static void apply(void) { answer = mdf_apply_unsigned(image, built_len, root, LIMIT, 1, out, sizeof out); }
+static void apply_mode(void) { answer = mdf_apply_mode_signed(image, built_len, root, LIMIT, (mdf_mode){.width = 63}, -1, out, sizeof out); }
 static void check(void) { checked = mdf_check(image, built_len, root, LIMIT); }
 static void translate(void) { shown = mdf_translate(image, built_len, root, LIMIT, image, 8); }
 
@@ -100,6 +101,7 @@ static size_t most_of(uint8_t kind, void (*f)(void)) {
 
 int main(void) {
     size_t walked = most_of(11, check), by_key = most_of(7, apply), by_range = most_of(8, apply), by_bits = most_of(11, apply);
+    size_t in_a_mode = most_of(11, apply_mode);
     size_t by_text = most_of(10, translate), one_block = most_of(11, parse_and_write), one_word = most_of(11, read_by_place);
     build(11, 11);
     apply();
@@ -107,8 +109,8 @@ int main(void) {
         printf("stack: the deepest bit groups gave no text, or a block was not written or read\n");
         return 1;
     }
-    printf("stack below the caller at 21 levels, bytes: check %zu, type 7 %zu, type 8 %zu, bit groups %zu, type 10 shown %zu; one block %zu, "
+    printf("stack below the caller at 21 levels, bytes: check %zu, type 7 %zu, type 8 %zu, bit groups %zu, in a mode %zu, type 10 shown %zu; one block %zu, "
            "one word %zu\n",
-           walked, by_key, by_range, by_bits, by_text, one_block, one_word);
+           walked, by_key, by_range, by_bits, in_a_mode, by_text, one_block, one_word);
     return 0;
 }
