@@ -1,7 +1,6 @@
 -- Demand 3 of one call, over what its result says: `demand-3`. `apply` and `apply_in` are proved to answer `applying`, so this holds of every call
 -- of them. Assumes nothing.
 use mathlib.Core.Path.{_≡_, refl, sym, ap, _∙_}
-use mathlib.Core.Bool.{false}
 use mathlib.Core.Logic.{_⊎_, ⊎-elim}
 use mathlib.Core.List.{List}
 use Prim.Native.Nat.{ℕ, _≤_, _<_}

@@ -13,7 +13,6 @@ use lib.ListN.{length, getD}
 use lib.Pow.{pow-mono}
 use Rattle.words.proofs.Clash.{clash}
 use Rattle.common.specs.Header.{inside, isConversion}
-use Rattle.common.specs.Refusal.{numberOf}
 use Rattle.common.specs.declared.refusal.Refusal.{Refusal}
 use Rattle.common.specs.declared.refusal.Refusal.the-variants.{Outside, NotConversion, Limit, Width}
 use Rattle.common.specs.declared.refusal.Word.the-variants.{Bits}
@@ -31,7 +30,7 @@ use Rattle.conversion.specs.declared.logic.Answer.the-variants.{Refused}
 use Rattle.conversion.proofs.Demand.{untouched}
 use Rattle.conversion.proofs.DemandThree.{demand-3}
 use Rattle.modes.specs.Width.{isWidth, wide, applyingAt}
-use Rattle.modes.proofs.Same.{below, Below, held, same-bits, same-root}
+use Rattle.modes.proofs.Same.{below, held, same-bits, same-root}
 
 -- ---- the test
 both : (p q : Bool) → (p && q) ≡ true → q ≡ true
@@ -88,15 +87,18 @@ module _ (img : List ℕ) (a limit : ℕ) (t out : List ℕ) where
   same-groups one other e v w eleven h = called _ _ (same-root one other e img t 21 a v w eleven h)
 
   module _ (width : ℕ) where
+    by-width : (v : Value) (is : Bool) → isWidth width ≡ is
+        → applyingAt width img a limit v t out ≡ cond is (applying (wide width) img a limit v t out) (call (refusedBefore Width) out)
+    unfolding applyingAt
+    by-width v is h = ap (λ (x : Bool). cond x (applying (wide width) img a limit v t out) (call (refusedBefore Width) out)) h
+
     -- a width from 1 to 64: the call is one in that mode, so that demand 3 is that of `applying`
     pub width-taken : (v : Value) → isWidth width ≡ true → applyingAt width img a limit v t out ≡ applying (wide width) img a limit v t out
-    unfolding applyingAt
-    width-taken v h = ap (λ (is : Bool). cond is (applying (wide width) img a limit v t out) (call (refusedBefore Width) out)) h
+    width-taken v h = by-width v true h
 
     -- any other width: refusal 11 and nothing else, whatever the image, the address, the limit and the value are
     pub width-refused : (v : Value) → isWidth width ≡ false → applyingAt width img a limit v t out ≡ call (refusedBefore Width) out
-    unfolding applyingAt
-    width-refused v h = ap (λ (is : Bool). cond is (applying (wide width) img a limit v t out) (call (refusedBefore Width) out)) h
+    width-refused v h = by-width v false h
 
     -- at a bit-group block the value's bits at and above the width do not matter: two integers that agree on the low bits give the same call
     pub low-bits-decide : (v w : Value) → blockAt img a .kind ≡ 11 → bitsOf (wide width) v ≡ bitsOf (wide width) w

@@ -3,7 +3,7 @@
 use mathlib.Core.Path.{_≡_, refl, sym, ap, ap₂, subst, _∙_}
 use mathlib.Core.Bool.{Bool, true, false, cond}
 use mathlib.Core.List.{List}
-use Prim.Native.Nat.{ℕ, zero, suc, _%_, _^_, _<_}
+use Prim.Native.Nat.{ℕ, zero, suc, _^_, _<_}
 use native.Mathlib.Nat.{mod-eq-of-lt, mod-lt, lt-of-le-of-lt}
 use lib.Bits.{bitAnd, and-le-l}
 use lib.Dec.{leb}
@@ -30,7 +30,7 @@ use Rattle.rules.specs.declared.number.Value.{Value}
 use Rattle.rules.specs.declared.number.Value.the-variants.{Unsigned, Signed, Float, Text, Other}
 use Rattle.steps.specs.Mode.{bitsOf}
 use Rattle.steps.specs.Choice.{chosenKey, chosenRange, malformedRange}
-use Rattle.steps.specs.Step.{groupedBits, groupedIn, typed, unlessCut, stepOf}
+use Rattle.steps.specs.Step.{groupedIn, typed, unlessCut, stepOf}
 use Rattle.steps.specs.declared.mode.Mode.{Mode}
 use Rattle.steps.specs.declared.mode.Edition.{Edition}
 use Rattle.steps.specs.declared.mode.Edition.the-variants.{Mdf410, Mdf420}
