@@ -6,8 +6,8 @@ use conversion::logic::apply;
 use modes::apply_at;
 use rules::number::Value;
 
-// The least number that stands for no width.
-const NO_WIDTH: u64 = 4294967296;
+// A width from here on stands for none.
+pub const NO_WIDTH: u64 = 4294967296;
 
 pub struct Request {
     pub address: u64,

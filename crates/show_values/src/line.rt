@@ -12,16 +12,15 @@ use lines::decimal;
 use lines::parts::part;
 use lines::parts::room;
 use lines::parts::word;
+use lines::request::NO_WIDTH;
 use lines::request::Request;
 use rules::number::Value;
 
-// A line names the visit limit and the room only where they are not the usual ones: this limit, and the most room.
+// A line names the width of the signal where the request has one, and the visit limit and the room where they are not the usual ones: this limit, and
+// the most room.
 const LIMIT: u32 = 4096;
 
 const ROOM: usize = 4096;
-
-// A line names the width of a signal where the request has one.
-const NO_WIDTH: u64 = 4294967296;
 
 // The links to a conversion's name and unit.
 struct Links {
@@ -77,7 +76,7 @@ fn value(v: Value, text: &[u8]) {
 }
 
 fn limits(r: Request, width: u64) {
-    if width != NO_WIDTH {
+    if width < NO_WIDTH {
         labelled(say::WIDTH, width);
         say(say::CLOSE);
     }

@@ -28,10 +28,10 @@
 //! # What a call can cost
 //!
 //! With S the bytes of the image, N the visits of the check, at most the limit, B the bytes of the largest block visited, and R the length of `out`,
-//! [`check`] takes at most a constant times N * B, and [`apply`] S + N * (B + R), for a text of Q bytes Q + r * (Q + 1) more, r being the references
-//! of the block at the address. [`translate`] takes what the check and the keys take, and reads the text that it shows once. How long a text is that
-//! is not needed plays no part, nor how many references lead to it. A reference that is the same as the last nested one of its block is counted by
-//! the check and not walked again.
+//! [`check`] takes at most a constant times N * B, and [`apply`] and [`apply_in`] S + N * (B + R), for a text of Q bytes Q + r * (Q + 1) more, r being
+//! the references of the block at the address. [`translate`] takes what the check and the keys take, and reads the text that it shows once. How long a
+//! text is that is not needed plays no part, nor how many references lead to it. A reference that is the same as the last nested one of its block is
+//! counted by the check and not walked again.
 //!
 //! So the limit and the length of `out` are the caller's brake. Choose a limit well above the nested blocks that one conversion is expected to have:
 //! 4096 is generous. Choose `out` as long as the longest text that can be shown: a longer one is [`Refusal::Room`] at no more cost. A call takes at
