@@ -17,8 +17,8 @@ pub fn is_width(width: u32) -> bool
     (0 < width) & (width <= 64)
 }
 
-// As `apply`, of a signal of so many bits: no more of them than its low ones reach the masks of bit groups. A wrong width is refused before anything
-// else is looked at.
+// As `apply`, for a signal of so many bits: of a whole number only so many low bits reach the masks of bit groups. A wrong width is refused before
+// anything else is looked at.
 pub fn apply_at(
     width: u32,
     image: &[u8],

@@ -13,7 +13,7 @@ use Rattle.steps.specs.declared.mode.Edition.the-variants.{Mdf420}
 abbrev pub standard : Mode
 standard = record { width = 64; edition = Mdf420 }
 
--- the low bits of an integer, signed as two's complement; no other value has any
+-- the low bits of an integer, signed as two's complement; no other value has any (request [2]: "only that many low bits reach the masks")
 abbrev pub bitsOf : Mode → Value → Word
 bitsOf mode (Unsigned n) = Bits (n % 2 ^ mode .width)
 bitsOf mode (Signed n) = Bits (twos n % 2 ^ mode .width)
