@@ -18,7 +18,7 @@ pub const HOSTILE_EVERY: u64 = 1000;
 /// A limit that no grown tree reaches.
 const WIDE_LIMIT: u32 = 20_000;
 
-/// The widths are drawn apart, so that images and values are those that a seed had before there were widths.
+/// The widths are drawn apart, so that they change no image and no value of a seed.
 const WIDTHS: u64 = 0x7769_6474_6873;
 
 fn is_hostile(number: u64) -> bool {
