@@ -7,10 +7,10 @@ document 01 and the MDF standard alone, with nothing but Python's own library, a
 nothing about it.
 
 The image is 64 bytes of identification, then ##TX, ##MD and ##CC blocks one behind the other, each at a multiple of 8. Before it stand the
-requests, numbers little-endian: how many in 8 bytes, then 64 bytes for each.
+requests, numbers little-endian: how many in 8 bytes, then 72 bytes for each.
 A request has eight bytes each for the conversion's address, the kind of the value (its place in KINDS), the value's 64 bits or the length of a
-text, the visit limit, the room for a text answer, and the width of the signal, or 2^32 where it names none; then the text, filled up with zeros
-to 16 bytes.
+text, the visit limit, the room for a text answer, the width of the signal, and the number of the edition, these two 2^32 where it names none; then
+the text, filled up with zeros to 16 bytes.
 """
 import os
 import struct
@@ -18,7 +18,7 @@ import struct
 KINDS = ("unsigned", "signed", "float", "text", "other")
 TYPES = ("identity", "linear", "rational", "formula", "table interpolated", "table nearest", "range to value", "value to text", "range to text",
          "text to value", "text to text", "bit groups")
-NO_WIDTH = 2 ** 32
+NONE = 2 ** 32
 HERE = os.path.dirname(os.path.abspath(__file__))
 
 blocks = []  # (label, size in bytes, function of the addresses that gives the bytes)
@@ -62,13 +62,13 @@ def conversion(label, kind, name="", unit="", comment="", inverse="", refs=(), v
     conversions.append((label, kind, name, unit))
 
 
-def request(where, kind, value=0, limit=4096, room=4096, width=NO_WIDTH):
+def request(where, kind, value=0, limit=4096, room=4096, width=NONE, edition=NONE):
     """A value for the conversion with a label, or at an address. Limit and room are the usual ones if they are not given."""
     text = value.encode() if kind == "text" else b""
     bits = {"unsigned": "<Q", "signed": "<q", "float": "<d", "text": "<Q", "other": "<Q"}[kind]
     assert len(text) <= 16 and room <= 4096
     body = struct.pack("<Q", KINDS.index(kind)) + struct.pack(bits, len(text) if kind == "text" else value)
-    requests.append((where, body + struct.pack("<QQQ", limit, room, width) + text.ljust(16, b"\0")))
+    requests.append((where, body + struct.pack("<QQQQ", limit, room, width, edition) + text.ljust(16, b"\0")))
 
 
 for text in ("Engine hours", "h", "Torque", "Nm", "at the rear shaft", "Raw torque", "Fuel rate", "l/h", "Slip", "%", "100*(X1-0.3)/X1"):
@@ -179,6 +179,12 @@ request("status", "signed", -1, width=64)
 request("status", "signed", -1)
 request("status", "signed", -5, width=4)
 request("status", "signed", -1, width=65)
+# Bit groups came with edition 4.20. A wrong edition is refused before a wrong width.
+request("groups", "unsigned", 6, edition=420)
+request("groups", "unsigned", 6, edition=410)
+request("status", "signed", -1, width=4, edition=410)
+request("groups", "unsigned", 6, edition=411)
+request("status", "signed", -1, width=65, edition=411)
 request("maker", "unsigned", 7)
 request("vendor", "unsigned", 7)
 request("seat", "unsigned", 1)

@@ -6,7 +6,7 @@ pub enum Input {
     Signed(Vec<i64>),
     Float(Vec<f64>),
     Text(Vec<String>),
-    /// Unsigned, by the entry with a mode, at width 64, which alone the crate knows.
+    /// Unsigned, by the entry with a mode, at width 64 in edition 4.20, which alone the crate knows.
     Moded(Vec<u64>),
 }
 

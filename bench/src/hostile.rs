@@ -12,8 +12,8 @@ const ROOM: usize = 64;
 enum Call {
     Check,
     Number(u64),
-    /// Signed, by the entry with a mode, at a width.
-    AtWidth(i64, u32),
+    /// Signed, by the entry with a mode.
+    InMode(i64, ours::Mode),
     Text(&'static str),
     Translate(&'static str),
     Reference(u64),
@@ -43,6 +43,8 @@ pub const ALL: &[Hostile] = &[
     },
     Hostile { name: "narrow-groups", says: "the same, signed -1 at width 4, by mdf_apply_mode_signed", build: narrow_groups },
     Hostile { name: "no-width", says: "the same, at width 65: refused with 11", build: no_width },
+    Hostile { name: "older-groups", says: "the same, at width 64 in edition 4.10, which knows no bit groups", build: older_groups },
+    Hostile { name: "no-edition", says: "the same, at width 65 in edition 411: refused with 16", build: no_edition },
     Hostile { name: "deep-groups", says: "21 levels of bit groups, all groups but the last to one long ##TX", build: deep_groups },
     Hostile { name: "groups", says: "bit groups, all groups to one long ##TX", build: groups },
     Hostile { name: "choices", says: "bit groups, all groups to one type 7 that chooses one long ##TX", build: choices },
@@ -77,7 +79,7 @@ impl Asked {
             match self.call {
                 Call::Check => look(unsafe { ours::mdf_check(p, l, at, limit) }),
                 Call::Number(v) => look(unsafe { ours::mdf_apply_unsigned(p, l, at, limit, v, o, ROOM) }),
-                Call::AtWidth(v, width) => look(unsafe { ours::mdf_apply_mode_signed(p, l, at, limit, ours::Mode { width }, v, o, ROOM) }),
+                Call::InMode(v, mode) => look(unsafe { ours::mdf_apply_mode_signed(p, l, at, limit, mode, v, o, ROOM) }),
                 Call::Text(t) => look(unsafe { ours::mdf_apply_text(p, l, at, limit, t.as_ptr(), t.len(), o, ROOM) }),
                 Call::Translate(t) => look(unsafe { ours::mdf_translate(p, l, at, limit, t.as_ptr(), t.len()) }),
                 Call::Reference(i) => look(unsafe { ours::mdf_reference(p, l, at, i) }),
@@ -111,11 +113,23 @@ fn groups_in_groups(s: usize) -> Asked {
 }
 
 fn narrow_groups(s: usize) -> Asked {
-    nested_groups(s, Call::AtWidth(-1, 4))
+    in_mode(s, 4, 420)
 }
 
 fn no_width(s: usize) -> Asked {
-    nested_groups(s, Call::AtWidth(-1, 65))
+    in_mode(s, 65, 420)
+}
+
+fn older_groups(s: usize) -> Asked {
+    in_mode(s, 64, 410)
+}
+
+fn no_edition(s: usize) -> Asked {
+    in_mode(s, 65, 411)
+}
+
+fn in_mode(s: usize, width: u32, edition: u32) -> Asked {
+    nested_groups(s, Call::InMode(-1, ours::Mode { width, edition }))
 }
 
 fn nested_groups(s: usize, call: Call) -> Asked {

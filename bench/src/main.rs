@@ -80,7 +80,7 @@ impl Bench {
                 black_box(&unsafe { ours::mdf_apply_text(p, l, at, LIMIT, t.as_ptr(), t.len(), o, m) });
             }),
             Input::Moded(list) => turns(list, n).for_each(|v| {
-                black_box(&unsafe { ours::mdf_apply_mode_unsigned(p, l, at, LIMIT, ours::Mode { width: 64 }, *v, o, m) });
+                black_box(&unsafe { ours::mdf_apply_mode_unsigned(p, l, at, LIMIT, ours::STANDARD, *v, o, m) });
             }),
         }
     }

@@ -17,7 +17,11 @@ pub struct Applied {
 #[derive(Clone, Copy)]
 pub struct Mode {
     pub width: u32,
+    pub edition: u32,
 }
+
+/// The mode that the crate knows: width 64, edition 4.20.
+pub const STANDARD: Mode = Mode { width: 64, edition: 420 };
 
 #[repr(C)]
 pub struct Checked {

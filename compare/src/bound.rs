@@ -101,7 +101,7 @@ pub fn within(side: &dyn Side, scene: &Scene, tally: &mut Tally) -> Verdict {
         let units = units(scene, tree, references, ask);
         let mut out = vec![0; ask.room];
         timed("an application", units, tally, || side.apply(image, address, limit, ask.value, &ask.text, &mut out))?;
-        timed("an application at a width", units, tally, || side.apply_at(ask.width, image, address, limit, ask.value, &ask.text, &mut out))?;
+        timed("an application in a mode", units, tally, || side.apply_at(ask.mode, image, address, limit, ask.value, &ask.text, &mut out))?;
         if ask.value == Value::Text {
             timed("a translation", units, tally, || side.translate(image, address, limit, &ask.text))?;
         }

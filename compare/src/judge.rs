@@ -3,7 +3,7 @@ use crate::bound::tree_of;
 use crate::domain::{self, Place};
 use crate::scene::{Ask, Fields, Scene};
 use crate::second::RIGHT;
-use crate::side::{Applied, Side, Value};
+use crate::side::{Applied, Side, Value, STANDARD};
 use crate::tally::Tally;
 use crate::theirs::{self, Outcome};
 use oracle::blocks::conversion::ConversionBlock;
@@ -211,7 +211,7 @@ fn apply_ask(side: &dyn Side, scene: &Scene, ask: &Ask, block: &ConversionBlock,
     let ours = side.apply(&scene.image, scene.address, scene.limit, ask.value, &ask.text, &mut out);
     count_answer(block, ask.value, &ours, tally);
     same_answer(&ours, &out, given, &theirs, ask.room)?;
-    width_64_alike(side, scene, ask, &ours, &out)?;
+    standard_mode_alike(side, scene, ask, &ours, &out)?;
     same("N of an application", ours.checked as u64, theirs::tree_size(block))?;
     if ask.value == Value::Text && block.cc_type.to_u8() == 10 {
         tally.add("crate, texts shown", "type 10");
@@ -220,11 +220,11 @@ fn apply_ask(side: &dyn Side, scene: &Scene, ask: &Ask, block: &ConversionBlock,
     Ok(())
 }
 
-/// At width 64, which alone is compared with the crate, the entry with a width answers as the one without.
-fn width_64_alike(side: &dyn Side, scene: &Scene, ask: &Ask, ours: &Applied, out: &[u8]) -> Verdict {
+/// At width 64 in edition 4.20, which alone are compared with the crate, the entry with a mode answers as the one without.
+fn standard_mode_alike(side: &dyn Side, scene: &Scene, ask: &Ask, ours: &Applied, out: &[u8]) -> Verdict {
     let mut again = output(ask.room);
-    let wide = side.apply_at(64, &scene.image, scene.address, scene.limit, ask.value, &ask.text, &mut again);
-    same("width 64", (wide, &again[..]), (*ours, out))
+    let moded = side.apply_at(STANDARD, &scene.image, scene.address, scene.limit, ask.value, &ask.text, &mut again);
+    same("width 64 in edition 4.20", (moded, &again[..]), (*ours, out))
 }
 
 fn count_answer(block: &ConversionBlock, value: Value, ours: &Applied, tally: &mut Tally) {
@@ -306,7 +306,7 @@ pub fn with_side(a: &dyn Side, b: &dyn Side, scene: &Scene, tally: &mut Tally) -
         tally.add("second reading, applications by refusal", ours.refusal);
         tally.add_if(checked.refusal == 0, "second reading, applications by blocks begun M", begun_class(ours.applied));
         tally.add_if(ours.malformed == 1, "second reading, applications that consulted a malformed table", says(&ours));
-        widths_alike(a, b, scene, ask, (&ours, &out_a), tally)?;
+        modes_alike(a, b, scene, ask, (&ours, &out_a), tally)?;
         if ask.value == Value::Text {
             let shown = a.translate(image, address, limit, &ask.text);
             same("the text shown", shown, b.translate(image, address, limit, &ask.text))?;
@@ -316,21 +316,28 @@ pub fn with_side(a: &dyn Side, b: &dyn Side, scene: &Scene, tally: &mut Tally) -
     Ok(())
 }
 
-/// The entry with a width, which the crate does not have. `plain` is the answer of the one without, and its output.
-fn widths_alike(a: &dyn Side, b: &dyn Side, scene: &Scene, ask: &Ask, plain: (&Applied, &[u8]), tally: &mut Tally) -> Verdict {
+/// The entry with a mode, which the crate does not have. `plain` is the answer of the one without, and its output.
+fn modes_alike(a: &dyn Side, b: &dyn Side, scene: &Scene, ask: &Ask, plain: (&Applied, &[u8]), tally: &mut Tally) -> Verdict {
     let (image, address, limit) = (&scene.image[..], scene.address, scene.limit);
     let (mut out_a, mut out_b) = (output(ask.room), output(ask.room));
-    let ours = a.apply_at(ask.width, image, address, limit, ask.value, &ask.text, &mut out_a);
-    let other = b.apply_at(ask.width, image, address, limit, ask.value, &ask.text, &mut out_b);
-    same("the application at a width", (ours, &out_a), (other, &out_b))?;
+    let ours = a.apply_at(ask.mode, image, address, limit, ask.value, &ask.text, &mut out_a);
+    let other = b.apply_at(ask.mode, image, address, limit, ask.value, &ask.text, &mut out_b);
+    same("the application in a mode", (ours, &out_a), (other, &out_b))?;
     untouched_behind(&ours, &out_a)?;
-    let changed = ours.refusal != 11 && (&ours, &out_a[..]) != plain;
-    let effect = match ours.refusal {
-        11 => "refused with 11",
-        _ if changed => "another answer than at width 64",
-        _ => "the answer of width 64",
+    let changed = (&ours, &out_a[..]) != plain;
+    let effect = match (ours.refusal, ask.mode.edition) {
+        (16, _) => "refused with 16",
+        (11, _) => "refused with 11",
+        (_, 410) if changed => "another answer in 4.10 than without a mode",
+        (_, 410) => "the same answer in 4.10 as without a mode",
+        _ if changed => "another answer in 4.20 than without a mode",
+        _ => "the same answer in 4.20 as without a mode",
     };
-    tally.add("second reading, applications at a width", effect);
+    tally.add("second reading, applications in a mode", effect);
+    if changed && ours.kind == 3 && ask.mode.edition == 410 {
+        let place = if ours.applied == 1 { "at the root" } else { "below it" };
+        tally.add("second reading, type 11 unknown in 4.10, by the answer without a mode", format!("{} {place}", says(plain.0)));
+    }
     Ok(())
 }
 

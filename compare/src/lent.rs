@@ -1,6 +1,6 @@
 // Lent buffers with a guard around them. A buffer stands at the edge of its pages: past the edge no access is allowed, so that a read or
 // a write there stops the program; on its other side stand guard bytes that are looked at after each call.
-use crate::side::{Applied, Block, Checked, Parsed, Shown, Side, Value, Written};
+use crate::side::{Applied, Block, Checked, Mode, Parsed, Shown, Side, Value, Written};
 use std::cell::{Cell, RefCell};
 
 extern "C" {
@@ -144,8 +144,8 @@ impl<S: Side> Side for Guarded<S> {
         self.applied(image, text, out, |image, text, out| self.side.apply(image, address, limit, value, text, out))
     }
 
-    fn apply_at(&self, width: u32, image: &[u8], address: u64, limit: u32, value: Value, text: &[u8], out: &mut [u8]) -> Applied {
-        self.applied(image, text, out, |image, text, out| self.side.apply_at(width, image, address, limit, value, text, out))
+    fn apply_at(&self, mode: Mode, image: &[u8], address: u64, limit: u32, value: Value, text: &[u8], out: &mut [u8]) -> Applied {
+        self.applied(image, text, out, |image, text, out| self.side.apply_at(mode, image, address, limit, value, text, out))
     }
 
     fn translate(&self, image: &[u8], address: u64, limit: u32, question: &[u8]) -> Shown {

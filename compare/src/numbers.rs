@@ -100,6 +100,17 @@ pub fn width(r: &mut Random) -> u32 {
     }
 }
 
+const NO_EDITIONS: &[u32] = &[0, 400, 409, 411, 419, 421, u32::MAX];
+
+/// The edition of a file: mostly 4.10 or 4.20, else a number that names none.
+pub fn edition(r: &mut Random) -> u32 {
+    match r.below(10) {
+        0..=3 => 410,
+        4..=7 => 420,
+        _ => r.pick(NO_EDITIONS),
+    }
+}
+
 /// A number of the palette, or one beside it or half-way between two.
 fn near(r: &mut Random, palette: &[u64]) -> f64 {
     let (a, b) = (f64::from_bits(r.pick(palette)), f64::from_bits(r.pick(palette)));

@@ -86,9 +86,8 @@ impl Side for Ours {
         }
     }
 
-    fn apply_at(&self, width: u32, image: &[u8], address: u64, limit: u32, value: Value, text: &[u8], out: &mut [u8]) -> Applied {
+    fn apply_at(&self, mode: Mode, image: &[u8], address: u64, limit: u32, value: Value, text: &[u8], out: &mut [u8]) -> Applied {
         let (i, n, o, m) = (image.as_ptr(), image.len(), out.as_mut_ptr(), out.len());
-        let mode = Mode { width };
         unsafe {
             match value {
                 Value::Unsigned(v) => mdf_apply_mode_unsigned(i, n, address, limit, mode, v, o, m),

@@ -26,9 +26,10 @@ fn reduced(scene: Scene, seen: Seen) -> Scene {
     }
 }
 
+/// A mode that is refused is so on an empty image too, which cannot be made shorter.
 fn shorter(best: &mut Scene, shows: &dyn Fn(&Scene) -> bool) {
     let mut step = best.image.len();
-    while step > 0 {
+    while step > 0 && !best.image.is_empty() {
         let mut next = best.clone();
         next.image.truncate(best.image.len().saturating_sub(step));
         if shows(&next) {
@@ -76,7 +77,8 @@ fn tell_fields(scene: &Scene) {
 fn tell(scene: &Scene) {
     println!("  address {} limit {} image of {} bytes", scene.address, scene.limit, scene.image.len());
     for ask in &scene.asks {
-        println!("  asked {:?} text {:?} room {} width {}", ask.value, String::from_utf8_lossy(&ask.text), ask.room, ask.width);
+        let (text, mode) = (String::from_utf8_lossy(&ask.text), ask.mode);
+        println!("  asked {:?} text {text:?} room {} width {} edition {}", ask.value, ask.room, mode.width, mode.edition);
     }
     for (i, word) in scene.image.chunks(8).enumerate().filter(|(_, w)| w.iter().any(|&b| b != 0)) {
         let hex: Vec<String> = word.iter().map(|b| format!("{b:02x}")).collect();

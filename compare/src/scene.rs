@@ -7,7 +7,7 @@ use crate::lent::LARGEST_IMAGE;
 use crate::numbers;
 use crate::random::Random;
 use crate::second::RIGHT;
-use crate::side::{Block, Side, Value};
+use crate::side::{Block, Mode, Side, Value};
 
 /// So many values are asked in each scene.
 pub const ASKS: usize = 8;
@@ -18,8 +18,9 @@ pub const HOSTILE_EVERY: u64 = 1000;
 /// A limit that no grown tree reaches.
 const WIDE_LIMIT: u32 = 20_000;
 
-/// The widths are drawn apart, so that they change no image and no value of a seed.
+/// Widths and editions are each drawn apart, so that they change no image and no value of a seed, nor each other.
 const WIDTHS: u64 = 0x7769_6474_6873;
+const EDITIONS: u64 = 0x6564_6974_696f_6e73;
 
 fn is_hostile(number: u64) -> bool {
     number % HOSTILE_EVERY == HOSTILE_EVERY - 1
@@ -30,8 +31,24 @@ pub struct Ask {
     pub value: Value,
     pub text: Vec<u8>,
     pub room: usize,
-    /// The width of the signal, for the entry that takes one.
-    pub width: u32,
+    /// For the entry that takes one.
+    pub mode: Mode,
+}
+
+/// The modes of a scene, one for each ask.
+struct Modes {
+    widths: Random,
+    editions: Random,
+}
+
+impl Modes {
+    fn new(seed: u64, number: u64) -> Modes {
+        Modes { widths: Random::new(seed ^ WIDTHS, number), editions: Random::new(seed ^ EDITIONS, number) }
+    }
+
+    fn next(&mut self) -> Mode {
+        Mode { width: numbers::width(&mut self.widths), edition: numbers::edition(&mut self.editions) }
+    }
 }
 
 #[derive(Clone)]
@@ -56,9 +73,9 @@ pub struct Scene {
 impl Scene {
     pub fn new(seed: u64, number: u64) -> Scene {
         let mut r = Random::new(seed, number);
-        let mut widths = Random::new(seed ^ WIDTHS, number);
+        let mut modes = Modes::new(seed, number);
         if is_hostile(number) {
-            return Scene::hostile(&mut r, &mut widths);
+            return Scene::hostile(&mut r, &mut modes);
         }
         let grown = Grower::grow(&mut r);
         let mut laid = grown.plan.lay(&mut r);
@@ -80,13 +97,13 @@ impl Scene {
             let value = numbers::value(&mut r, &grown.palette, wants_text);
             let text = if value == Value::Text { numbers::question(&mut r, &grown.texts) } else { Vec::new() };
             let room = scene.room(value, &text, 600, &mut r);
-            scene.asks.push(Ask { value, text, room, width: numbers::width(&mut widths) });
+            scene.asks.push(Ask { value, text, room, mode: modes.next() });
         }
         scene
     }
 
     /// A hostile image, which is not damaged; the room is mostly small.
-    fn hostile(r: &mut Random, widths: &mut Random) -> Scene {
+    fn hostile(r: &mut Random, modes: &mut Modes) -> Scene {
         let grown = hostile::grow(r);
         let laid = grown.plan.lay(r);
         let address = laid.places[grown.plan.root];
@@ -101,7 +118,7 @@ impl Scene {
             };
             let text = if value == Value::Text { numbers::question(r, &grown.texts) } else { Vec::new() };
             let room = if r.chance(60) { r.pick(&[64, 64, 64, 0, 1]) } else { scene.room(value, &text, 4000, r) };
-            scene.asks.push(Ask { value, text, room, width: numbers::width(widths) });
+            scene.asks.push(Ask { value, text, room, mode: modes.next() });
         }
         scene
     }

@@ -1,10 +1,10 @@
-// A second reading of document 01 and requests [2] and [5], plain and slow: check, apply, parse, write and the type 10 entry. It judges the proved build
-// where the crate has no say, and with one rule broken (`wrong`) it is a wrong build that the comparison has to catch.
+// A second reading of document 01 and requests [2], [5] and [8], plain and slow: check, apply, parse, write and the type 10 entry. It judges the
+// proved build where the crate has no say, and with one rule broken (`wrong`) it is a wrong build that the comparison has to catch.
 mod apply;
 mod block;
 mod rules;
 
-use crate::side::{Applied, Block, Checked, Parsed, Shown, Side, Value, Written};
+use crate::side::{Applied, Block, Checked, Mode, Parsed, Shown, Side, Value, Written, STANDARD};
 use crate::wrong::Wrong;
 use apply::{Application, Says};
 pub use block::Found;
@@ -26,6 +26,8 @@ struct Walk<'a> {
     visits: u64,
     path: Vec<u64>,
     seen: Vec<u64>,
+    /// Whether the file is of edition 4.10: only a wrong build asks.
+    older: bool,
 }
 
 /// A nested reference of a block, and how many visits it took.
@@ -45,8 +47,13 @@ impl Second {
         block::id_at(image, address).filter(|&id| id == b"##CC").and_then(|_| self.read(image, address))
     }
 
-    /// Root first: refusals 1, 2, 3, 4; then its references.
+    /// The check, which is alike in both editions.
     fn accepted(&self, image: &[u8], address: u64, limit: u32) -> Result<u32, Refused> {
+        self.accepted_in(false, image, address, limit)
+    }
+
+    /// Root first: refusals 1, 2, 3, 4; then its references.
+    fn accepted_in(&self, older: bool, image: &[u8], address: u64, limit: u32) -> Result<u32, Refused> {
         let more = if self.is(Wrong::RootHeaderOneByteMore) { 1 } else { 0 };
         if address as u128 + 24 + more > image.len() as u128 {
             return Err((1, address));
@@ -58,7 +65,7 @@ impl Second {
             return Err((3, address));
         }
         let limit = limit as u64 - (self.is(Wrong::LimitOneLess) && limit > 0) as u64;
-        let mut walk = Walk { image, limit, visits: 0, path: Vec::new(), seen: Vec::new() };
+        let mut walk = Walk { image, limit, visits: 0, path: Vec::new(), seen: Vec::new(), older };
         self.visit(&mut walk, address, 0)?;
         Ok(walk.visits as u32)
     }
@@ -90,7 +97,11 @@ impl Second {
         if matches!(self.wrong, Wrong::RepeatsCountOnce | Wrong::OneVisitedSet) {
             walk.seen.push(address);
         }
-        let walked = !self.is(Wrong::OnlyTextTypesWalked) || [7, 8, 11].contains(&found.kind);
+        let walked = match self.wrong {
+            Wrong::OnlyTextTypesWalked => [7, 8, 11].contains(&found.kind),
+            Wrong::OlderNotWalked => !(walk.older && found.kind == 11),
+            _ => true,
+        };
         walk.path.push(address);
         let mut last = Remembered::default();
         for &link in found.refs.iter().filter(|_| walked) {
@@ -193,28 +204,66 @@ impl Second {
         }
     }
 
-    /// Refusal 11; what the check says plays no part but in wrong builds.
-    fn width_refused(&self, checked: Result<u32, Refused>) -> Applied {
-        let ((refusal, address), visits) = match (self.wrong, checked) {
-            (Wrong::WidthAfterOutside, Err((1, address))) => ((1, address), 0),
-            (Wrong::WidthAfterCheck, Err(refused)) => (refused, 0),
-            (Wrong::WidthWithVisits, Ok(visits)) => ((11, 0), visits),
-            _ => ((11, 0), 0),
+    /// The editions are 4.10 and 4.20.
+    fn is_edition(&self, edition: u32) -> bool {
+        match self.wrong {
+            Wrong::Edition410Refused => edition == 420,
+            Wrong::EditionNextTaken => [410, 411, 420].contains(&edition),
+            Wrong::EditionZeroTaken => [0, 410, 420].contains(&edition),
+            Wrong::EditionBelowTaken => edition <= 420,
+            Wrong::EditionAboveTaken => edition >= 410,
+            _ => [410, 420].contains(&edition),
+        }
+    }
+
+    /// Whether an edition is 4.10, in which type 11 is unknown.
+    fn is_older(&self, edition: u32) -> bool {
+        match self.wrong {
+            Wrong::EditionIgnored => false,
+            Wrong::GroupsUnknown => true,
+            Wrong::EditionNextTaken | Wrong::EditionBelowTaken => edition < 420,
+            _ => edition == 410,
+        }
+    }
+
+    /// The refusal of a mode that is none: 16 for its edition, then 11 for its width.
+    fn mode_refusal(&self, mode: Mode) -> Option<u32> {
+        match self.wrong {
+            Wrong::EditionAfterWidth if !self.is_width(mode.width) => Some(11),
+            Wrong::OlderOfAnyWidth if mode.edition == 410 => None,
+            _ if !self.is_edition(mode.edition) => Some(16),
+            _ if !self.is_width(mode.width) => Some(11),
+            _ => None,
+        }
+    }
+
+    /// Refusal 16 or 11; what is asked for and what the check says plays no part but in wrong builds.
+    fn mode_refused(&self, number: u32, asked: u64, checked: Result<u32, Refused>) -> Applied {
+        let ((refusal, address), visits) = match (self.wrong, number, checked) {
+            (Wrong::WidthAfterOutside, 11, Err((1, address))) => ((1, address), 0),
+            (Wrong::WidthAfterCheck, 11, Err(refused)) => (refused, 0),
+            (Wrong::WidthWithVisits, 11, Ok(visits)) => ((11, 0), visits),
+            (Wrong::EditionAfterOutside, 16, Err((1, address))) => ((1, address), 0),
+            (Wrong::EditionAfterCheck, 16, Err(refused)) => (refused, 0),
+            (Wrong::EditionWithVisits, 16, Ok(visits)) => ((16, 0), visits),
+            (Wrong::EditionWithAddress, 16, _) => ((16, asked), 0),
+            _ => ((number, 0), 0),
         };
         Applied { refusal, kind: 0, number: 0.0, length: 0, address, checked: visits, applied: 0, malformed: 0 }
     }
 
-    /// Check, then application, of a signal of so many bits.
+    /// Check, then application, in a mode.
     #[allow(clippy::too_many_arguments)]
-    fn applied(&self, width: u32, image: &[u8], address: u64, limit: u32, value: Value, text: &[u8], out: &mut [u8]) -> Applied {
-        match self.accepted(image, address, limit) {
+    fn applied(&self, mode: Mode, image: &[u8], address: u64, limit: u32, value: Value, text: &[u8], out: &mut [u8]) -> Applied {
+        let (width, older) = (mode.width, self.is_older(mode.edition));
+        match self.accepted_in(older, image, address, limit) {
             Err((refusal, named)) => {
                 let root = self.opened(image, address).filter(|_| self.is(Wrong::OddTableOfRefused));
                 let malformed = root.is_some_and(|found| self.consults(&found, value)) as u32;
                 Applied { refusal, kind: 0, number: 0.0, length: 0, address: named, checked: 0, applied: 0, malformed }
             }
             Ok(checked) => {
-                let mut run = Application { second: self, image, text, most: out.len() + 1, begun: 0, longest: 0, malformed: false, width };
+                let mut run = Application { second: self, image, text, most: out.len() + 1, begun: 0, longest: 0, malformed: false, width, older };
                 let says = run.apply(address, value);
                 self.settle(checked, run, says, out)
             }
@@ -231,18 +280,26 @@ impl Side for Second {
     }
 
     fn apply(&self, image: &[u8], address: u64, limit: u32, value: Value, text: &[u8], out: &mut [u8]) -> Applied {
-        self.applied(64, image, address, limit, value, text, out)
+        let edition = if self.is(Wrong::PlainIsOlder) { 410 } else { STANDARD.edition };
+        self.applied(Mode { edition, ..STANDARD }, image, address, limit, value, text, out)
     }
 
-    fn apply_at(&self, width: u32, image: &[u8], address: u64, limit: u32, value: Value, text: &[u8], out: &mut [u8]) -> Applied {
-        if self.is_width(width) {
-            let value = if self.is(Wrong::WidthOfValue) { self.cut(value, width) } else { value };
-            return self.applied(width, image, address, limit, value, text, out);
-        }
-        if self.is(Wrong::WidthTouchesOutput) && !out.is_empty() {
+    fn apply_at(&self, mode: Mode, image: &[u8], address: u64, limit: u32, value: Value, text: &[u8], out: &mut [u8]) -> Applied {
+        let edition = match (self.wrong, mode.edition) {
+            (Wrong::EditionsSwapped, 410) => 420,
+            (Wrong::EditionsSwapped, 420) => 410,
+            (_, edition) => edition,
+        };
+        let mode = Mode { edition, ..mode };
+        let Some(number) = self.mode_refusal(mode) else {
+            let value = if self.is(Wrong::WidthOfValue) { self.cut(value, mode.width) } else { value };
+            return self.applied(mode, image, address, limit, value, text, out);
+        };
+        let touches = matches!((self.wrong, number), (Wrong::WidthTouchesOutput, 11) | (Wrong::EditionTouchesOutput, 16));
+        if touches && !out.is_empty() {
             out[0] = 0;
         }
-        self.width_refused(self.accepted(image, address, limit))
+        self.mode_refused(number, address, self.accepted(image, address, limit))
     }
 
     fn translate(&self, image: &[u8], address: u64, limit: u32, question: &[u8]) -> Shown {

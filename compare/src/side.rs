@@ -33,11 +33,16 @@ pub struct Applied {
     pub malformed: u32,
 }
 
+/// `width`: how many bits the signal has. `edition`: 410 or 420, that of the file.
 #[repr(C)]
-#[derive(Clone, Copy, Debug)]
+#[derive(Clone, Copy, Debug, PartialEq, Eq)]
 pub struct Mode {
     pub width: u32,
+    pub edition: u32,
 }
+
+/// The mode that the entry without one has, and the only one that the crate knows.
+pub const STANDARD: Mode = Mode { width: 64, edition: 420 };
 
 #[repr(C)]
 #[derive(Clone, Copy, Debug, PartialEq, Eq)]
@@ -88,9 +93,9 @@ pub trait Side {
     fn check(&self, image: &[u8], address: u64, limit: u32) -> Checked;
     fn apply(&self, image: &[u8], address: u64, limit: u32, value: Value, text: &[u8], out: &mut [u8]) -> Applied;
 
-    /// The entry with the width of the signal.
+    /// The entry with a mode.
     #[allow(clippy::too_many_arguments)]
-    fn apply_at(&self, width: u32, image: &[u8], address: u64, limit: u32, value: Value, text: &[u8], out: &mut [u8]) -> Applied;
+    fn apply_at(&self, mode: Mode, image: &[u8], address: u64, limit: u32, value: Value, text: &[u8], out: &mut [u8]) -> Applied;
     fn translate(&self, image: &[u8], address: u64, limit: u32, question: &[u8]) -> Shown;
     fn parse(&self, image: &[u8], address: u64) -> Parsed;
     fn write(&self, block: Block, refs: &[u64], words: &[u64], out: &mut [u8]) -> Written;

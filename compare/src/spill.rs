@@ -3,7 +3,7 @@ use crate::judge::{guards_stand, with_side};
 use crate::lent::{Guarded, PAGE};
 use crate::scene::Scene;
 use crate::second::RIGHT;
-use crate::side::{Applied, Block, Checked, Parsed, Shown, Side, Value, Written};
+use crate::side::{Applied, Block, Checked, Mode, Parsed, Shown, Side, Value, Written};
 use crate::tally::Tally;
 
 /// A build with right answers that changes one byte that it may not: beside the output, of the image, or of the text.
@@ -44,8 +44,8 @@ impl Side for Spills {
         answer
     }
 
-    fn apply_at(&self, width: u32, image: &[u8], address: u64, limit: u32, value: Value, text: &[u8], out: &mut [u8]) -> Applied {
-        let answer = RIGHT.apply_at(width, image, address, limit, value, text, out);
+    fn apply_at(&self, mode: Mode, image: &[u8], address: u64, limit: u32, value: Value, text: &[u8], out: &mut [u8]) -> Applied {
+        let answer = RIGHT.apply_at(mode, image, address, limit, value, text, out);
         self.spill(image, text, out);
         answer
     }

@@ -1,4 +1,5 @@
-// The wrong builds: each is the second reading with one rule of document 01 or of requests [2] and [5] broken. WRONG-BUILDS.md is this list in words.
+// The wrong builds: each is the second reading with one rule of document 01 or of requests [2], [5] and [8] broken. WRONG-BUILDS.md is this list
+// in words.
 
 /// Who has to catch a wrong build: the crate; the proved build where the crate has no such rule or no say; the clock where all answers are right.
 #[derive(Clone, Copy, Debug, PartialEq, Eq)]
@@ -183,4 +184,33 @@ wrong_builds! {
     WidthAfterCheck Ours "all refusals of the check come before 11",
     WidthWithVisits Ours "refusal 11 carries the visits of the check",
     WidthTouchesOutput Ours "a call that is refused for its width has written to the output",
+    EditionAfterWidth Ours "refusal 11 comes before 16",
+    EditionAfterOutside Ours "refusal 1 comes before 16",
+    EditionAfterCheck Ours "all refusals of the check come before 16",
+    EditionWithVisits Ours "refusal 16 carries the visits of the check",
+    EditionWithAddress Ours "refusal 16 carries the address asked for",
+    EditionTouchesOutput Ours "a call that is refused for its edition has written to the output",
+    EditionNextTaken Ours "411 is taken as 4.10",
+    EditionZeroTaken Ours "0 is taken as 4.20",
+    EditionBelowTaken Ours "every number below 420 is taken as 4.10",
+    EditionAboveTaken Ours "every number above 410 is taken as 4.20",
+    Edition410Refused Ours "4.10 is refused",
+    EditionsSwapped Crate "4.10 and 4.20 are taken for each other",
+    EditionIgnored Ours "the edition is ignored: 4.10 shows bit groups as 4.20 does",
+    PlainIsOlder Crate "the entry without a mode takes 4.10",
+    GroupsUnknown Crate "type 11 is unknown in 4.20 too",
+    OlderAtRootOnly Ours "in 4.10 type 11 is unknown at the root alone",
+    OlderNestedOnly Ours "in 4.10 type 11 is unknown below the root alone",
+    OlderSignedShown Ours "in 4.10 type 11 shows bit groups of signed integers",
+    OlderUnknown Ours "in 4.10 type 11 answers Unknown",
+    OlderEmptyText Ours "in 4.10 type 11 answers the empty text",
+    OlderNotCounted Ours "in 4.10 M leaves out the type 11 block",
+    OlderCountsBelow Ours "in 4.10 M counts the blocks below type 11 as 4.20 does",
+    OlderTellsBelow Ours "in 4.10 a malformed table below type 11 is told",
+    OlderStoppedBelow Ours "in 4.10 a formula below type 11 is refused with 7",
+    OlderPassesOn Ours "in 4.10 type 11 passes its value to its first reference",
+    OlderTakesDefault Ours "in 4.10 a range to text that chooses a type 11 takes its default conversion",
+    OlderNotWalked Ours "in 4.10 the check does not walk the references of type 11",
+    OlderOfAnyWidth Ours "in 4.10 any width is taken",
+    OlderTextToText Ours "in 4.10 type 10 is unknown too",
 }

@@ -68,8 +68,8 @@ static mdf_applied of_number(uint64_t at, uint64_t value) {
     return mdf_apply_unsigned(built, built_len, at, LIMIT, value, out, sizeof out);
 }
 
-static mdf_applied of_signed(uint64_t at, int64_t value, uint32_t width) {
-    mdf_mode mode = {.width = width};
+static mdf_applied of_signed(uint64_t at, int64_t value, uint32_t width, uint32_t edition) {
+    mdf_mode mode = {.width = width, .edition = edition};
     return mdf_apply_mode_signed(built, built_len, at, LIMIT, mode, value, out, sizeof out);
 }
 
@@ -88,6 +88,11 @@ static void expect_x(mdf_applied a, uint32_t checked, uint32_t applied) {
     expect(said && a.checked == checked && a.applied == applied);
 }
 
+/* Refused before a block was looked at. */
+static void expect_before_all(mdf_applied a, uint32_t refusal) {
+    expect(a.refusal == refusal && a.kind == MDF_KIND_REFUSED && a.checked == 0 && a.applied == 0 && untouched(0));
+}
+
 /* ---- the images ---- */
 
 static uint64_t groups_of(uint64_t first, uint64_t other, uint64_t last, size_t groups) {
@@ -99,9 +104,11 @@ static void groups_in_groups(void) {
     uint64_t at = groups_of(long_text, long_text, long_text, 64);
     for (int level = 1; level < 13; level++) at = groups_of(at, long_text, at, 66);
     expect_room(of_number(at, 1), 8191, 8191);
-    expect_room(of_signed(at, -1, 4), 8191, 8191);
-    mdf_applied a = of_signed(at, -1, 0);
-    expect(a.refusal == MDF_REFUSED_WIDTH && a.kind == MDF_KIND_REFUSED && a.checked == 0 && a.applied == 0 && untouched(0));
+    expect_room(of_signed(at, -1, 4, MDF_EDITION_420), 8191, 8191);
+    mdf_applied a = of_signed(at, -1, 4, MDF_EDITION_410);
+    expect(a.refusal == 0 && a.kind == MDF_KIND_UNCHANGED && a.checked == 8191 && a.applied == 1 && untouched(0));
+    expect_before_all(of_signed(at, -1, 0, MDF_EDITION_420), MDF_REFUSED_WIDTH);
+    expect_before_all(of_signed(at, -1, 0, 411), MDF_REFUSED_EDITION);
 }
 
 static void deep_groups(void) {

@@ -54,7 +54,7 @@
  * 4096 is generous, while 4294967295 lets an image of some kilobytes begin that many visits. Choose `out` as long as the longest text that can be shown: a
  * longer one is refused with 8 at no more cost.
  *
- * Stack: at most 8,936 bytes below the caller, at 21 levels of nested blocks, the most that the check accepts.
+ * Stack: at most 9,096 bytes below the caller, at 21 levels of nested blocks, the most that the check accepts.
  */
 #ifndef MDF_CONVERSION_H
 #define MDF_CONVERSION_H
@@ -77,7 +77,8 @@ enum mdf_refusal {
     MDF_REFUSED_FORMULA = 7,        /* applying reaches a formula (type 3) with a number */
     MDF_REFUSED_ROOM = 8,           /* the text or block is longer than `out` */
     MDF_REFUSED_COUNT = 9,          /* more than 65,535 values to write */
-    MDF_REFUSED_WIDTH = 11          /* the width of a mode is 0 or above 64 */
+    MDF_REFUSED_WIDTH = 11,         /* the width of a mode is 0 or above 64 */
+    MDF_REFUSED_EDITION = 16        /* the edition of a mode is neither 410 nor 420 */
 };
 
 /* What an application answers. */
@@ -103,16 +104,23 @@ typedef struct {
     double number;    /* of kind MDF_KIND_NUMBER */
     uint64_t length;  /* bytes of the text, of kind MDF_KIND_TEXT */
     uint64_t address; /* of a refusal from 1 to 6 */
-    uint32_t checked; /* N, the visits of the check; 0 where refused with 1 to 6 or 11 */
-    uint32_t applied; /* M, the visits of applying; 0 where refused with 1 to 6 or 11 */
+    uint32_t checked; /* N, the visits of the check; 0 where refused with 1 to 6, 11 or 16 */
+    uint32_t applied; /* M, the visits of applying; 0 where refused with 1 to 6, 11 or 16 */
     /* 1: a malformed table was consulted, up to the answer or the refusal: a range to text (type 8) was applied to a number, and has no, one or an
-     * odd number of values. Its first reference then decides, whatever the number is. Else 0, also where refused with 1 to 6 or 11. */
+     * odd number of values. Its first reference then decides, whatever the number is. Else 0, also where refused with 1 to 6, 11 or 16. */
     uint32_t malformed;
 } mdf_applied;
 
+/* The editions of MDF that a mode can name: bit groups (type 11) came with 4.20. */
+enum mdf_edition {
+    MDF_EDITION_410 = 410, /* 4.10: type 11 is unknown, and leaves every value unchanged */
+    MDF_EDITION_420 = 420  /* 4.20: type 11 is bit groups, as in the calls without a mode */
+};
+
 /* How an application is to be done. */
 typedef struct {
-    uint32_t width; /* how many bits the signal has, 1 to 64: only so many low bits of a whole number reach the masks of bit groups */
+    uint32_t width;   /* how many bits the signal has, 1 to 64: only so many low bits of a whole number reach the masks of bit groups */
+    uint32_t edition; /* a number of enum mdf_edition */
 } mdf_mode;
 
 /* A part of the image or of the question. */
@@ -188,9 +196,11 @@ mdf_applied mdf_apply_text(const uint8_t *image, size_t image_len, uint64_t addr
 /* As mdf_apply_unsigned, for a value of any other kind. It stays unchanged, unless the check refuses. */
 mdf_applied mdf_apply_other(const uint8_t *image, size_t image_len, uint64_t address, uint32_t limit, uint8_t *out, size_t out_len);
 
-/* As mdf_apply_unsigned, in a mode. Every block of bit groups (type 11) that is reached sees no more than the low `mode.width` bits of the value: a
- * signal of 4 bits has no bit 4, so that a group with the mask 16 gets 0. No other conversion looks at the width; width 64 is mdf_apply_unsigned.
- * Refuses with 11 where the width is 0 or above 64, before anything else is looked at. */
+/* As mdf_apply_unsigned, in a mode. In edition 4.20 every block of bit groups (type 11) that is reached sees no more than the low `mode.width` bits of
+ * the value: a signal of 4 bits has no bit 4, so that a group with the mask 16 gets 0. In edition 4.10 a block of type 11 leaves the value
+ * unchanged, is one visit and passes nothing to its references, so that M is at most 21. No other conversion looks at the mode, nor does the check.
+ * Width 64 in edition 4.20 is mdf_apply_unsigned.
+ * Refuses with 16 where the edition is neither 410 nor 420, then with 11 where the width is 0 or above 64, before anything else is looked at. */
 mdf_applied mdf_apply_mode_unsigned(const uint8_t *image, size_t image_len, uint64_t address, uint32_t limit, mdf_mode mode, uint64_t value,
                                     uint8_t *out, size_t out_len);
 
@@ -199,7 +209,8 @@ mdf_applied mdf_apply_mode_unsigned(const uint8_t *image, size_t image_len, uint
 mdf_applied mdf_apply_mode_signed(const uint8_t *image, size_t image_len, uint64_t address, uint32_t limit, mdf_mode mode, int64_t value,
                                   uint8_t *out, size_t out_len);
 
-/* As mdf_apply_float, mdf_apply_text and mdf_apply_other, in a mode: the width is tested and plays no other part. */
+/* As mdf_apply_float, mdf_apply_text and mdf_apply_other, in a mode: edition and width are tested. These values are left unchanged by type 11 in both
+ * editions, so that the mode plays no other part. */
 mdf_applied mdf_apply_mode_float(const uint8_t *image, size_t image_len, uint64_t address, uint32_t limit, mdf_mode mode, double value,
                                  uint8_t *out, size_t out_len);
 mdf_applied mdf_apply_mode_text(const uint8_t *image, size_t image_len, uint64_t address, uint32_t limit, mdf_mode mode, const uint8_t *text,

@@ -5,6 +5,7 @@
 
 #include "build.h"
 
+#include <stdbool.h>
 #include <stdio.h>
 #include <ucontext.h>
 
@@ -28,7 +29,8 @@ static volatile uint32_t refusal;
 
 static void nothing(void) { answer = apply_no_block(image, built_len, root, LIMIT, 1, out, sizeof out); }
 static void apply(void) { answer = mdf_apply_unsigned(image, built_len, root, LIMIT, 1, out, sizeof out); }
-static void apply_mode(void) { answer = mdf_apply_mode_signed(image, built_len, root, LIMIT, (mdf_mode){.width = 63}, -1, out, sizeof out); }
+static const mdf_mode narrow = {.width = 63, .edition = MDF_EDITION_420};
+static void apply_mode(void) { answer = mdf_apply_mode_signed(image, built_len, root, LIMIT, narrow, -1, out, sizeof out); }
 static void check(void) { checked = mdf_check(image, built_len, root, LIMIT); }
 static void translate(void) { shown = mdf_translate(image, built_len, root, LIMIT, image, 8); }
 
@@ -99,13 +101,18 @@ static size_t most_of(uint8_t kind, void (*f)(void)) {
     return most;
 }
 
+/* Whether the call gave a text and began a block at each level. */
+static bool is_deepest(void (*f)(void)) {
+    f();
+    return answer.kind == MDF_KIND_TEXT && answer.checked == LEVELS && answer.applied == LEVELS;
+}
+
 int main(void) {
     size_t walked = most_of(11, check), by_key = most_of(7, apply), by_range = most_of(8, apply), by_bits = most_of(11, apply);
     size_t in_a_mode = most_of(11, apply_mode);
     size_t by_text = most_of(10, translate), one_block = most_of(11, parse_and_write), one_word = most_of(11, read_by_place);
     build(11, 11);
-    apply();
-    if (answer.kind != MDF_KIND_TEXT || answer.checked != LEVELS || answer.applied != LEVELS || refusal != 0) {
+    if (!is_deepest(apply) || !is_deepest(apply_mode) || refusal != 0) {
         printf("stack: the deepest bit groups gave no text, or a block was not written or read\n");
         return 1;
     }

@@ -1,4 +1,4 @@
-/* Calls each function of mdf_conversion.h: every line of document 01's "Cases", every refusal from 1 to 9, and 11.
+/* Calls each function of mdf_conversion.h: every line of document 01's "Cases", every refusal from 1 to 9, 11 and 16.
  *
  * The images are built here byte by byte. Each call gets its image in a block of the heap of exactly its length, so that valgrind sees a read past
  * its end, and an output buffer between guard bytes. After each call every byte that should be as it was is compared. */
@@ -18,7 +18,7 @@
 /* ---- counting ---- */
 
 /* What C programs that were compiled apart rely on. */
-_Static_assert(sizeof(mdf_mode) == 4, "mdf_mode has 4 bytes");
+_Static_assert(sizeof(mdf_mode) == 8 && offsetof(mdf_mode, edition) == 4, "mdf_mode has 8 bytes, and `edition` at 4");
 _Static_assert(sizeof(mdf_applied) == 48 && offsetof(mdf_applied, malformed) == 40, "mdf_applied has 48 bytes, and `malformed` at 40");
 
 static int passed, failed;
@@ -254,25 +254,45 @@ static void applies_in(const char *name, uint64_t address, uint32_t limit, const
     give_back_out(out);
 }
 
-static void applies_at_width(const char *name, uint64_t address, uint32_t limit, uint32_t width, size_t room, value v, mdf_applied wanted,
-                             const char *words) {
-    mdf_mode mode = {.width = width};
+static void applies_moded(const char *name, uint64_t address, uint32_t limit, uint32_t edition, uint32_t width, size_t room, value v,
+                          mdf_applied wanted, const char *words) {
+    mdf_mode mode = {.width = width, .edition = edition};
     applies_in(name, address, limit, &mode, room, v, wanted, words);
 }
 
-static const uint32_t wrong_widths[] = {0, 65, UINT32_MAX};
-
-/* 11, whatever else the call asks. */
-static void is_no_width(const char *name, uint64_t address, uint32_t limit, size_t room, value v) {
-    static const mdf_applied refused = {.refusal = MDF_REFUSED_WIDTH, .kind = MDF_KIND_REFUSED};
-    for (size_t i = 0; i < COUNT_OF(wrong_widths); i++) applies_at_width(name, address, limit, wrong_widths[i], room, v, refused, "");
+static void applies_at_width(const char *name, uint64_t address, uint32_t limit, uint32_t width, size_t room, value v, mdf_applied wanted,
+                             const char *words) {
+    applies_moded(name, address, limit, MDF_EDITION_420, width, room, v, wanted, words);
 }
 
-/* Every case is asked without a mode, at width 64, where the answer is the same, and at widths that are refused before anything else. */
+static const uint32_t wrong_widths[] = {0, 65, UINT32_MAX};
+static const uint32_t wrong_editions[] = {0, 400, 409, 411, 419, 421, UINT32_MAX};
+
+/* 11 in both editions, whatever else the call asks. */
+static void is_no_width(const char *name, uint64_t address, uint32_t limit, size_t room, value v) {
+    static const mdf_applied refused = {.refusal = MDF_REFUSED_WIDTH, .kind = MDF_KIND_REFUSED};
+    for (size_t i = 0; i < COUNT_OF(wrong_widths); i++) {
+        applies_moded(name, address, limit, MDF_EDITION_410, wrong_widths[i], room, v, refused, "");
+        applies_moded(name, address, limit, MDF_EDITION_420, wrong_widths[i], room, v, refused, "");
+    }
+}
+
+/* 16, whatever else the call asks: with a right width, and before 11 with a wrong one. */
+static void is_no_edition(const char *name, uint64_t address, uint32_t limit, size_t room, value v) {
+    static const mdf_applied refused = {.refusal = MDF_REFUSED_EDITION, .kind = MDF_KIND_REFUSED};
+    for (size_t i = 0; i < COUNT_OF(wrong_editions); i++) {
+        applies_moded(name, address, limit, wrong_editions[i], 64, room, v, refused, "");
+        applies_moded(name, address, limit, wrong_editions[i], wrong_widths[i % COUNT_OF(wrong_widths)], room, v, refused, "");
+    }
+}
+
+/* Every case is asked without a mode, at width 64 in edition 4.20, where the answer is the same, and at widths and in editions that are refused before
+ * anything else. */
 static void applies_within(const char *name, uint64_t address, uint32_t limit, size_t room, value v, mdf_applied wanted, const char *words) {
     applies_in(name, address, limit, NULL, room, v, wanted, words);
     applies_at_width(name, address, limit, 64, room, v, wanted, words);
     is_no_width(name, address, limit, room, v);
+    is_no_edition(name, address, limit, room, v);
 }
 
 static void applies(const char *name, uint64_t address, value v, mdf_applied wanted, const char *words) {
@@ -299,10 +319,11 @@ static void is_unknown(const char *name, uint64_t address, value v) {
     applies(name, address, v, wanted, "");
 }
 
-/* A refusal of the check, which has an address and no visits. */
+/* A refusal of the check, which has an address and no visits. The check knows no mode: it is the same in edition 4.10. */
 static void is_refused_at(const char *name, uint64_t address, uint32_t limit, value v, uint32_t refusal, uint64_t at) {
     mdf_applied wanted = {.refusal = refusal, .kind = MDF_KIND_REFUSED, .address = at};
     applies_within(name, address, limit, ROOM, v, wanted, "");
+    applies_moded(name, address, limit, MDF_EDITION_410, 4, ROOM, v, wanted, "");
 }
 
 /* A refusal of applying, which has visits and no address. */
@@ -554,6 +575,68 @@ static void width_below_cases(void) {
     applies_at_width("a width and a value of kind other", groups, LIMIT, 4, ROOM, other, unchanged, "");
     const mdf_applied too_long = {.refusal = MDF_REFUSED_ROOM, .kind = MDF_KIND_REFUSED, .checked = 4, .applied = 4};
     applies_at_width("a width and no room", groups, LIMIT, 4, 15, of_signed(-1), too_long, "");
+}
+
+/* ---- request [8]: files older than 4.20 ---- */
+
+/* In 4.10 every value is left unchanged, at any width, with N as in 4.20 and this M. */
+static void stays_in_410(const char *name, uint64_t address, uint32_t n, uint32_t m) {
+    static const uint32_t widths[] = {1, 4, 64};
+    const value values[] = {of_unsigned(6), of_signed(-1), of_float(6), of_text("6"), other};
+    for (size_t i = 0; i < COUNT_OF(values); i++) {
+        /* a value that is no number begins the root alone */
+        bool is_number = values[i].sort != TEXT && values[i].sort != OTHER;
+        mdf_applied wanted = {.kind = MDF_KIND_UNCHANGED, .checked = n, .applied = is_number ? m : 1};
+        for (size_t k = 0; k < COUNT_OF(widths); k++) {
+            applies_moded(name, address, LIMIT, MDF_EDITION_410, widths[k], ROOM, values[i], wanted, "");
+        }
+        applies_moded(name, address, LIMIT, MDF_EDITION_410, 64, 0, values[i], wanted, "");
+    }
+    is_accepted(name, address, LIMIT, n);
+}
+
+/* Bit groups at the root, and under types 7, 8 and 11. */
+static void edition_cases(void) {
+    static const uint64_t masks[] = {3, 12}, all = UINT64_MAX;
+    static const double key = 6, bounds[] = {-10, 10};
+    begin();
+    uint64_t gear_name = text("Gear"), low = text("Low"), pto = text("PTO"), two = bits(2);
+    plan gear = {.kind = 7, .name = gear_name, .refs = &low, .ref_count = 1, .words = &two, .word_count = 1};
+    const uint64_t groups_of[] = {block(gear), pto};
+    uint64_t groups = of_words(11, groups_of, 2, masks, 2), nested = of_words(11, &groups, 1, &all, 1);
+    const uint64_t both[] = {groups, groups};
+    uint64_t by_key = of_values(7, both, 2, &key, 1), by_range = of_values(8, both, 2, bounds, 2);
+    stays_in_410("4.10: bit groups at the root", groups, 2, 1);
+    stays_in_410("4.10: bit groups under bit groups", nested, 3, 1);
+    stays_in_410("4.10: bit groups under a value to text", by_key, 5, 2);
+    stays_in_410("4.10: bit groups under a range to text", by_range, 5, 2);
+    gives_text("4.20: bit groups at the root", groups, of_unsigned(6), "Gear = Low|PTO", 2, 2);
+    gives_text("4.20: bit groups under bit groups", nested, of_unsigned(6), "Gear = Low|PTO", 3, 3);
+    gives_text("4.20: bit groups under a value to text", by_key, of_unsigned(6), "Gear = Low|PTO", 5, 3);
+    gives_text("4.20: bit groups under a range to text", by_range, of_unsigned(6), "Gear = Low|PTO", 5, 3);
+}
+
+/* No other type knows the edition. What lies below bit groups in 4.10 is not begun: a formula there refuses nothing, an odd table is not told of. */
+static void edition_elsewhere_cases(void) {
+    static const uint64_t all[] = {UINT64_MAX, UINT64_MAX};
+    static const double odd[] = {0, 10, 10};
+    begin();
+    uint64_t slow = text("slow"), two = bits(2);
+    uint64_t formula = of_refs(3, NULL, 0), table = of_values(8, &slow, 1, odd, 3), by_key = of_words(7, &slow, 1, &two, 1);
+    uint64_t torque = of_numbers(1, zero_and_eighth, 2);
+    const uint64_t below[] = {table, formula};
+    uint64_t groups = of_words(11, below, 2, all, 2);
+    const mdf_applied unchanged = {.kind = MDF_KIND_UNCHANGED, .checked = 3, .applied = 1};
+    const mdf_applied stopped = {.refusal = MDF_REFUSED_FORMULA, .kind = MDF_KIND_REFUSED, .checked = 3, .applied = 3, .malformed = 1};
+    const mdf_applied of_table = {.kind = MDF_KIND_TEXT, .length = 4, .checked = 1, .applied = 1, .malformed = 1};
+    const mdf_applied number = {.kind = MDF_KIND_NUMBER, .number = -0.375, .checked = 1, .applied = 1};
+    const mdf_applied refused = {.refusal = MDF_REFUSED_FORMULA, .kind = MDF_KIND_REFUSED, .checked = 1, .applied = 1};
+    applies_moded("4.10: a formula and an odd table below", groups, LIMIT, MDF_EDITION_410, 64, ROOM, of_unsigned(5), unchanged, "");
+    applies_moded("4.20: a formula and an odd table below", groups, LIMIT, MDF_EDITION_420, 64, ROOM, of_unsigned(5), stopped, "");
+    applies_moded("4.10: an odd table", table, LIMIT, MDF_EDITION_410, 64, ROOM, of_unsigned(5), of_table, "slow");
+    applies_moded("4.10: a value to text", by_key, LIMIT, MDF_EDITION_410, 1, ROOM, of_unsigned(2), a_text("slow", 1, 1), "slow");
+    applies_moded("4.10: linear, signed -3", torque, LIMIT, MDF_EDITION_410, 1, ROOM, of_signed(-3), number, "");
+    applies_moded("4.10: a formula", formula, LIMIT, MDF_EDITION_410, 64, ROOM, of_unsigned(5), refused, "");
 }
 
 static void visit_cases(void) {
@@ -933,6 +1016,8 @@ int main(void) {
     bit_group_cases();
     width_cases();
     width_below_cases();
+    edition_cases();
+    edition_elsewhere_cases();
     visit_cases();
     deep_cases();
     outside_cases();

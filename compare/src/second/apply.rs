@@ -26,6 +26,8 @@ pub struct Application<'a> {
     pub malformed: bool,
     /// How many bits the signal has.
     pub width: u32,
+    /// Whether the file is of edition 4.10.
+    pub older: bool,
 }
 
 /// Where a reference leads.
@@ -169,6 +171,8 @@ impl Application<'_> {
         match (found.kind, value) {
             (0 | 12.., _) if found.kind > 0 && self.is(Wrong::UnknownTypeUnknown) => Ok(Says::Unknown),
             (0 | 12.., _) => Ok(Says::Unchanged),
+            (11, _) if self.is_unknown(value) => self.unknown_groups(&found, value),
+            (10, _) if self.older && self.is(Wrong::OlderTextToText) => Ok(Says::Unchanged),
             (_, Value::Other(_)) if self.is(Wrong::OtherUnknown) => Ok(Says::Unknown),
             (_, Value::Other(_)) => Ok(Says::Unchanged),
             (3, Value::Text) if self.is(Wrong::FormulaTakesText) => Err(Formula),
@@ -227,7 +231,7 @@ impl Application<'_> {
         let default = self.default_conversion(found);
         match lead {
             Lead::Text(from, to) => return Ok(Says::Text(self.kept(from, to))),
-            Lead::Conversion(address) => return self.nested(address, value),
+            Lead::Conversion(address) if !self.is_passed_over(address, default) => return self.nested(address, value),
             Lead::Nil if matched => {
                 let unchanged = match reference {
                     Some(_) => self.is(Wrong::MatchedNilUnchanged),
@@ -286,6 +290,52 @@ impl Application<'_> {
             None if self.is(Wrong::NoTranslationUnknown) => Says::Unknown,
             None => Says::Unchanged,
         }
+    }
+
+    /// Whether a block of type 11 is unknown, as it is in edition 4.10 (request [8]).
+    fn is_unknown(&self, value: Value) -> bool {
+        self.older
+            && match self.second.wrong {
+                Wrong::OlderAtRootOnly => self.begun == 1,
+                Wrong::OlderNestedOnly => self.begun > 1,
+                Wrong::OlderSignedShown => !matches!(value, Value::Signed(_)),
+                _ => true,
+            }
+    }
+
+    /// A block of type 11 that is unknown leaves its value unchanged. What stands below it plays no part but in wrong builds.
+    fn unknown_groups(&mut self, found: &Found, value: Value) -> Result<Says, Formula> {
+        let (begun, malformed) = (self.begun, self.malformed);
+        match self.second.wrong {
+            Wrong::OlderUnknown => return Ok(Says::Unknown),
+            Wrong::OlderEmptyText => return Ok(Says::Text(Vec::new())),
+            Wrong::OlderNotCounted => self.begun -= 1,
+            Wrong::OlderCountsBelow => {
+                let _ = self.bit_groups(found, value);
+                self.malformed = malformed;
+            }
+            Wrong::OlderTellsBelow => {
+                let _ = self.bit_groups(found, value);
+                self.begun = begun;
+            }
+            Wrong::OlderStoppedBelow => {
+                self.bit_groups(found, value)?;
+                (self.begun, self.malformed) = (begun, malformed);
+            }
+            Wrong::OlderPassesOn => {
+                if let Some(Lead::Conversion(address)) = found.refs.first().map(|&link| self.second.lead(self.image, link)) {
+                    return self.nested(address, value);
+                }
+            }
+            _ => {}
+        }
+        Ok(Says::Unchanged)
+    }
+
+    /// Whether a wrong build takes the default conversion in the place of a block of type 11.
+    fn is_passed_over(&self, address: u64, default: Option<u64>) -> bool {
+        let is_groups = || self.second.read(self.image, address).is_some_and(|found| found.kind == 11);
+        self.is(Wrong::OlderTakesDefault) && self.older && default.is_some() && is_groups()
     }
 
     fn bit_groups(&mut self, found: &Found, value: Value) -> Result<Says, Formula> {

@@ -1,5 +1,6 @@
 // The check of a conversion tree, and values converted: applied, and shown by the entry for type 10.
 use crate::build::ADDRESS;
+use crate::build::EDITION;
 use crate::build::LIMIT;
 use crate::build::ROOM;
 use crate::build::SIZE;
@@ -28,7 +29,8 @@ fn limit_of(mem: &[u8]) -> u32 {
 }
 
 fn answer(mem: &[u8], r: Request, text: &[u8], lent: &mut [u8]) {
-    let a = r.ask(word(mem, WIDTH), image_of(mem), text, lent);
+    let edition = word(mem, EDITION);
+    let a = r.ask(edition, word(mem, WIDTH), image_of(mem), text, lent);
     say::applied(a, lent);
 }
 

@@ -12,9 +12,10 @@ use std::num::wrapping_add_usize;
 use std::num::wrapping_sub_usize;
 
 // 600000 bytes, in which a block of 65535 values has room, and behind them what the cases share.
-pub type Memory = [u8; 600048];
+pub type Memory = [u8; 600056];
 
-// The address, the visit limit, the room and the width of a call, the size of the image, and the count of the values that the rules are asked with.
+// The address, the visit limit, the room, the width and the edition of a call, the size of the image, and the count of the values that the rules are
+// asked with.
 pub const ADDRESS: usize = 600000;
 
 pub const LIMIT: usize = 600008;
@@ -23,9 +24,11 @@ pub const ROOM: usize = 600016;
 
 pub const WIDTH: usize = 600024;
 
-pub const SIZE: usize = 600032;
+pub const EDITION: usize = 600032;
 
-pub const COUNT: usize = 600040;
+pub const SIZE: usize = 600040;
+
+pub const COUNT: usize = 600048;
 
 // The values of the rules stand from here on, between bytes of 0x5a that would show if a place was wrong.
 pub const FIRST: usize = 27;

@@ -68,6 +68,6 @@ fn table() -> [u8; 131072]
 fn main() {
     let mut input = table();
     let n = io::read_full(0, &mut input);
-    let mut mem = [170u8; 600048];
+    let mut mem = [170u8; 600056];
     all(&input[..n], &mut mem);
 }

@@ -1,7 +1,8 @@
--- The number and the address of each refusal (document 01, "What a call can say"; request [2]: "11 Width"). Assumes nothing: these are definitions.
+-- The number and the address of each refusal (document 01, "What a call can say"; request [2]: "11 Width"; request [8]: "16 Edition"). Assumes nothing:
+-- these are definitions.
 use Prim.Native.Nat.{ℕ}
 use Rattle.common.specs.declared.refusal.Refusal.{Refusal}
-use Rattle.common.specs.declared.refusal.Refusal.the-variants.{Outside, NotConversion, Limit, Short, Deep, Loop, Formula, Room, Count, Width}
+use Rattle.common.specs.declared.refusal.Refusal.the-variants.{Outside, NotConversion, Limit, Short, Deep, Loop, Formula, Room, Count, Width, Edition}
 use Rattle.common.specs.declared.refusal.Word.{Word}
 use Rattle.common.specs.declared.refusal.Word.the-variants.{Bits, NoWord}
 
@@ -16,6 +17,7 @@ numberOf Formula = 7
 numberOf Room = 8
 numberOf Count = 9
 numberOf Width = 11
+numberOf Edition = 16
 
 -- 1 to 6 also the block or link address
 abbrev pub addressOf : Refusal → Word
@@ -29,3 +31,4 @@ addressOf Formula = NoWord
 addressOf Room = NoWord
 addressOf Count = NoWord
 addressOf Width = NoWord
+addressOf Edition = NoWord

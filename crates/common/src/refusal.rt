@@ -15,6 +15,7 @@ pub enum Refusal {
     Room,
     Count,
     Width,
+    Edition,
 }
 
 // A number of 64 bits, where there is one.
@@ -39,6 +40,7 @@ impl Refusal {
             Refusal::Room => 8,
             Refusal::Count => 9,
             Refusal::Width => 11,
+            Refusal::Edition => 16,
         }
     }
 
@@ -57,6 +59,7 @@ impl Refusal {
             Refusal::Room => Word::NoWord,
             Refusal::Count => Word::NoWord,
             Refusal::Width => Word::NoWord,
+            Refusal::Edition => Word::NoWord,
         }
     }
 }

@@ -1,5 +1,5 @@
 -- Demand 3 of an application after an accepted check, and that a refusal leaves the output as it was. Assumes nothing.
-use mathlib.Core.Path.{_≡_, refl, sym, ap, _∙_}
+use mathlib.Core.Path.{_≡_, refl, sym, ap, subst, _∙_}
 use mathlib.Core.Bool.{Bool, true, false, cond}
 use mathlib.Core.Logic.{_⊎_, inl, inr}
 use mathlib.Core.List.{List, _++_}
@@ -13,6 +13,8 @@ use Rattle.common.specs.declared.refusal.Refusal.{Refusal}
 use Rattle.common.specs.declared.refusal.Refusal.the-variants.{Room, Formula}
 use Rattle.rules.specs.declared.number.Value.{Value}
 use Rattle.steps.specs.declared.mode.Mode.{Mode}
+use Rattle.steps.specs.declared.mode.Edition.{Edition}
+use Rattle.steps.specs.declared.mode.Edition.the-variants.{Mdf410}
 use Rattle.tree.specs.Walk.{checked}
 use Rattle.tree.specs.declared.Checked.{Checked}
 use Rattle.tree.specs.declared.Checked.the-variants.{Accepted, Unsound}
@@ -22,7 +24,7 @@ use Rattle.engine.specs.Apply.{applied}
 use Rattle.conversion.specs.Entry.{Call, answerIn, outputAfter, settled, byCheck, applying}
 use Rattle.conversion.specs.Reach.{NoGroups}
 use Rattle.conversion.specs.declared.logic.Answer.the-variants.{Text, Refused}
-use Rattle.conversion.proofs.Reach.{reach, shallow}
+use Rattle.conversion.proofs.Reach.{Groupless, groupless, reach, shallow}
 
 -- ---- the blocks that applying reaches
 -- after an accepted check applying meets no block that cannot be opened: none is short, and the 21 levels suffice
@@ -40,7 +42,8 @@ visits mode img t a l n v e =
 -- M <= 21 where no block of type 11 is reached
 pub few-visits : (mode : Mode) (img t : List ℕ) (a l n : ℕ) (v : Value) → checked img a l ≡ Accepted n
     → NoGroups img (applied 21 mode img t a v .begun) → length (applied 21 mode img t a v .begun) ≤ 21
-few-visits mode img t a l n v e = shallow 21 mode img t a v (acceptance img a l n e .sound)
+few-visits mode img t a l n v e none =
+    shallow 21 mode img t a v (acceptance img a l n e .sound) (groupless (mode .edition) img (applied 21 mode img t a v .begun) none)
 
 -- ---- what a call answers
 -- a call whose check accepts answers what applying says
@@ -100,6 +103,18 @@ untouched mode img a l v t out r = go (checked img a l)
         → byCheck c (λ m. settled m a (applied 21 mode img t a v) out) out .output ≡ out
     go (Accepted n) p = kept (length out) a out (applied 21 mode img t a v .says) r refl p
     go (Unsound s) p = refl
+
+-- in edition 4.10, which does not know bit groups, M <= 21 for every image, with no condition: where the check refuses, M is 0
+pub few-visits-410 : (mode : Mode) (img : List ℕ) (a l : ℕ) (v : Value) (t out : List ℕ) → mode .edition ≡ Mdf410
+    → applying mode img a l v t out .result .applied ≤ 21
+unfolding applying settled
+few-visits-410 mode img a l v t out older = go (checked img a l) refl
+  where
+    go : (c : Checked) → checked img a l ≡ c → byCheck c (λ m. settled m a (applied 21 mode img t a v) out) out .result .applied ≤ 21
+    go (Accepted n) e =
+        shallow 21 mode img t a v (acceptance img a l n e .sound)
+        (subst (λ (x : Edition). Groupless x img (applied 21 mode img t a v .begun)) (sym older) tt)
+    go (Unsound r) e = omega arith
 
 -- M fits its number
 pub visits-fit : (mode : Mode) (img t : List ℕ) (a l n : ℕ) (v : Value) → checked img a l ≡ Accepted n → l ≤ 4294967295

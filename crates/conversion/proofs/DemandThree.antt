@@ -11,6 +11,7 @@ use Rattle.common.specs.declared.refusal.Refusal.{Refusal}
 use Rattle.common.specs.declared.refusal.Refusal.the-variants.{Limit}
 use Rattle.rules.specs.declared.number.Value.{Value}
 use Rattle.steps.specs.declared.mode.Mode.{Mode}
+use Rattle.steps.specs.declared.mode.Edition.the-variants.{Mdf410}
 use Rattle.tree.specs.Tree.{size}
 use Rattle.tree.specs.Walk.{trace, checked}
 use Rattle.tree.specs.declared.Checked.{Checked}
@@ -21,7 +22,7 @@ use Rattle.engine.specs.Apply.{applied}
 use Rattle.conversion.specs.Entry.{Call, call, settled, refusedBefore, byCheck, applying}
 use Rattle.conversion.specs.Reach.{NoGroups}
 use Rattle.conversion.specs.declared.logic.Answer.the-variants.{Refused}
-use Rattle.conversion.proofs.Demand.{after-check, visits, few-visits, refused-only, same-when-raised, untouched}
+use Rattle.conversion.proofs.Demand.{after-check, visits, few-visits, few-visits-410, refused-only, same-when-raised, untouched}
 
 -- image, address, limit, a value with a text beside it, and the lent output; in any mode
 module _ (mode : Mode) (img : List ℕ) (a limit : ℕ) (v : Value) (t out : List ℕ) where
@@ -61,6 +62,8 @@ module _ (mode : Mode) (img : List ℕ) (a limit : ℕ) (v : Value) (t out : Lis
     pub refused : (r : Refusal) → checked img a limit ≡ Unsound r → AfterRefused r
     -- any refusal, of the check or of applying, leaves the output as it was
     pub kept : (r : Refusal) → made .result .answer ≡ Refused r → made .output ≡ out
+    -- M <= 21 in edition 4.10 for every image, whatever the check answers
+    pub few-410 : mode .edition ≡ Mdf410 → made .result .applied ≤ 21
     -- refusal 3 exactly where the walk with no limit begins more visits than the limit; it names the one that would be too many
     pub limit-comes : Rooted img a limit → limit < length (trace img a .visits)
         → made .result .answer ≡ Refused (Limit (getD (trace img a .visits) limit 0))
@@ -115,6 +118,7 @@ module _ (mode : Mode) (img : List ℕ) (a limit : ℕ) (v : Value) (t out : Lis
     accepted = after-accepted;
     refused = after-refused;
     kept = λ r p. untouched mode img a limit v t out r p;
+    few-410 = few-visits-410 mode img a limit v t out;
     limit-comes = λ root more. after-refused _ (limit-comes img a limit root more) .answer;
     limit-only = only;
   }

@@ -17,6 +17,7 @@ use Rattle.rules.specs.Numbers.{taken}
 use Rattle.rules.specs.declared.number.Value.{Value}
 use Rattle.rules.specs.declared.number.Value.the-variants.{Unsigned}
 use Rattle.steps.specs.Choice.{chosenKey, chosenRange}
+use Rattle.steps.specs.declared.mode.Edition.{Edition}
 use Rattle.steps.specs.declared.plain.Plain.{Plain}
 use Rattle.steps.specs.declared.plain.Plain.the-variants as plain
 use Rattle.steps.specs.declared.choice.Choice.{Choice}
@@ -160,8 +161,8 @@ module _ (nested : ℕ → Value → Ap) (img : List ℕ) (b : Block) (g : ℕ �
   unfolding bitGroups
   bits-fine bits = fine-gathered (groups nested img (viewOf b) bits (groupCount (viewOf b))) (groups-fine bits (groupCount (viewOf b)))
 
-  pub one-block : (v : Value) (s : Step) → Follows b s → (length (ruled nested img v s .begun) ≤ all) × Fine (ruled nested img v s .says)
-  one-block v (ByKey c) h = rw h (passed v (chosenKey img (viewOf b) (taken v)) (chosen-key img b (taken v)))
-  one-block v (ByRange c) h = rw h (passed v (chosenRange img (viewOf b) (taken v)) (chosen-range img b (taken v)))
-  one-block v (ByBits c bits) h = rw (h .0) (bits-few bits, bits-fine bits)
-  one-block v (Done p) h = (omega arith, fine-plain img p h)
+  pub one-block : (e : Edition) (v : Value) (s : Step) → Follows e b s → (length (ruled nested img v s .begun) ≤ all) × Fine (ruled nested img v s .says)
+  one-block e v (ByKey c) h = rw h (passed v (chosenKey img (viewOf b) (taken v)) (chosen-key img b (taken v)))
+  one-block e v (ByRange c) h = rw h (passed v (chosenRange img (viewOf b) (taken v)) (chosen-range img b (taken v)))
+  one-block e v (ByBits c bits) h = rw (h .0) (bits-few bits, bits-fine bits)
+  one-block e v (Done p) h = (omega arith, fine-plain img p h)

@@ -56,12 +56,12 @@ Sane plain.Formula = Unit {0}
 Sane plain.Broken = ⊥
 
 -- ---- the step
--- a step goes on with the block b itself, by bits only where it has type 11
-abbrev pub Follows : Block → Step → Type 0
-Follows b (ByKey c) = c ≡ viewOf b
-Follows b (ByRange c) = c ≡ viewOf b
-Follows b (ByBits c bits) = (c ≡ viewOf b) × (b .kind ≡ 11)
-Follows b (Done p) = Sane p
+-- a step goes on with the block b itself, by bits only where it has type 11 and the edition knows that type
+abbrev pub Follows : Edition → Block → Step → Type 0
+Follows e b (ByKey c) = c ≡ viewOf b
+Follows e b (ByRange c) = c ≡ viewOf b
+Follows e b (ByBits c bits) = (c ≡ viewOf b) × (b .kind ≡ 11) × (e ≡ Mdf420)
+Follows e b (Done p) = Sane p
 
 sane-numbered : (k : ConversionType) (vs : List Float) (x : Taken) → Sane (byTaken k vs x)
 sane-numbered kind.Identity vs (took.Number x whole) = tt
@@ -97,13 +97,13 @@ sane-text : (img : List ℕ) (b : View) (t : List ℕ) (is : Bool) → Sane (tex
 sane-text img b t true = sane-lead (translated img b t)
 sane-text img b t false = tt
 
-follows-bits : (e : Edition) (b : Block) (w : Word) → b .kind ≡ 11 → Follows b (groupedIn e (viewOf b) w)
+follows-bits : (e : Edition) (b : Block) (w : Word) → b .kind ≡ 11 → Follows e b (groupedIn e (viewOf b) w)
 follows-bits Mdf410 b w h = tt
-follows-bits Mdf420 b (Bits bits) h = (refl, h)
+follows-bits Mdf420 b (Bits bits) h = (refl, h, refl)
 follows-bits Mdf420 b NoWord h = tt
 
 module _ (mode : Mode) (img t : List ℕ) (b : Block) (v : Value) where
-  by-type : (k : ConversionType) → b .kind ≡ numberOfType k → Follows b (typed mode img t (viewOf b) v k)
+  by-type : (k : ConversionType) → b .kind ≡ numberOfType k → Follows (mode .edition) b (typed mode img t (viewOf b) v k)
   by-type kind.Identity h = sane-numbered kind.Identity _ (taken v)
   by-type kind.Linear h = sane-numbered kind.Linear _ (taken v)
   by-type kind.Rational h = sane-numbered kind.Rational _ (taken v)
@@ -118,10 +118,11 @@ module _ (mode : Mode) (img t : List ℕ) (b : Block) (v : Value) where
   by-type kind.BitGroups h = follows-bits (mode .edition) b (bitsOf mode v) h
   by-type (kind.Unknown n) h = sane-numbered (kind.Unknown n) _ (taken v)
 
-  pub step-follows : (a : ℕ) → opened img a ≡ Whole b → Follows b (stepOf mode img t a v)
+  pub step-follows : (a : ℕ) → opened img a ≡ Whole b → Follows (mode .edition) b (stepOf mode img t a v)
   unfolding stepOf seen
   step-follows a e =
-      subst (λ (p : Parsed). Follows b (unlessCut mode img t v (seenOf p))) (sym e) (by-type (typeOf (b .kind)) (sym (type-number (b .kind))))
+      subst (λ (p : Parsed). Follows (mode .edition) b (unlessCut mode img t v (seenOf p))) (sym e)
+      (by-type (typeOf (b .kind)) (sym (type-number (b .kind))))
 
 -- ---- the choice of types 7 and 8
 module _ (img : List ℕ) (b : Block) where

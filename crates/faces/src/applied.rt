@@ -53,8 +53,9 @@ pub fn applied_face(a: Applied) -> MdfApplied
     }
 }
 
-// `width`: how many bits the signal has.
+// `width`: how many bits the signal has. `edition`: 410 or 420, the edition of MDF.
 #[repr(C)]
 pub struct MdfMode {
     pub width: u32,
+    pub edition: u32,
 }

@@ -7,8 +7,33 @@ use rules::number::Value;
 ghost use mathlib.Core.Path.{_≡_};
 ghost use mathlib.Core.List.{[]};
 ghost use Rattle.rules.specs.declared.number.Value.the-variants.{Unsigned, Signed, Float, Text, Other};
-ghost use Rattle.modes.specs.Width.{applyingAt};
+ghost use Rattle.modes.specs.Asked.{applyingAt};
 ghost use Rattle.faces.specs.Applied.{face, callFace};
+
+// A value of any kind, with the text beside it.
+fn apply_moded(
+    image: &[u8],
+    address: u64,
+    limit: u32,
+    mode: MdfMode,
+    value: Value,
+    text: &[u8],
+    out: &mut [u8],
+) -> MdfApplied
+    ensures { λ r. ⌜ face r (now (out .exit))
+        ≡ callFace (applyingAt (mode .edition) (mode .width) (now (image .entry)) address limit value (now (text .entry)) (now (out .entry))) ⌝ }
+{
+    applied_face(apply_at(
+        mode.edition,
+        mode.width,
+        image,
+        address,
+        limit,
+        value,
+        text,
+        out,
+    ))
+}
 
 #[no_mangle]
 pub extern "C" fn mdf_apply_mode_unsigned(
@@ -20,17 +45,17 @@ pub extern "C" fn mdf_apply_mode_unsigned(
     out: &mut [u8],
 ) -> MdfApplied
     ensures { λ r. ⌜ face r (now (out .exit))
-        ≡ callFace (applyingAt (mode .width) (now (image .entry)) address limit (Unsigned value) [] (now (out .entry))) ⌝ }
+        ≡ callFace (applyingAt (mode .edition) (mode .width) (now (image .entry)) address limit (Unsigned value) [] (now (out .entry))) ⌝ }
 {
-    applied_face(apply_at(
-        mode.width,
+    apply_moded(
         image,
         address,
         limit,
+        mode,
         Value::Unsigned(value),
         b"",
         out,
-    ))
+    )
 }
 
 #[no_mangle]
@@ -43,17 +68,9 @@ pub extern "C" fn mdf_apply_mode_signed(
     out: &mut [u8],
 ) -> MdfApplied
     ensures { λ r. ⌜ face r (now (out .exit))
-        ≡ callFace (applyingAt (mode .width) (now (image .entry)) address limit (Signed value) [] (now (out .entry))) ⌝ }
+        ≡ callFace (applyingAt (mode .edition) (mode .width) (now (image .entry)) address limit (Signed value) [] (now (out .entry))) ⌝ }
 {
-    applied_face(apply_at(
-        mode.width,
-        image,
-        address,
-        limit,
-        Value::Signed(value),
-        b"",
-        out,
-    ))
+    apply_moded(image, address, limit, mode, Value::Signed(value), b"", out)
 }
 
 #[no_mangle]
@@ -66,17 +83,9 @@ pub extern "C" fn mdf_apply_mode_float(
     out: &mut [u8],
 ) -> MdfApplied
     ensures { λ r. ⌜ face r (now (out .exit))
-        ≡ callFace (applyingAt (mode .width) (now (image .entry)) address limit (Float value) [] (now (out .entry))) ⌝ }
+        ≡ callFace (applyingAt (mode .edition) (mode .width) (now (image .entry)) address limit (Float value) [] (now (out .entry))) ⌝ }
 {
-    applied_face(apply_at(
-        mode.width,
-        image,
-        address,
-        limit,
-        Value::Float(value),
-        b"",
-        out,
-    ))
+    apply_moded(image, address, limit, mode, Value::Float(value), b"", out)
 }
 
 #[no_mangle]
@@ -89,9 +98,9 @@ pub extern "C" fn mdf_apply_mode_text(
     out: &mut [u8],
 ) -> MdfApplied
     ensures { λ r. ⌜ face r (now (out .exit))
-        ≡ callFace (applyingAt (mode .width) (now (image .entry)) address limit Text (now (text .entry)) (now (out .entry))) ⌝ }
+        ≡ callFace (applyingAt (mode .edition) (mode .width) (now (image .entry)) address limit Text (now (text .entry)) (now (out .entry))) ⌝ }
 {
-    applied_face(apply_at(mode.width, image, address, limit, Value::Text, text, out))
+    apply_moded(image, address, limit, mode, Value::Text, text, out)
 }
 
 #[no_mangle]
@@ -103,7 +112,7 @@ pub extern "C" fn mdf_apply_mode_other(
     out: &mut [u8],
 ) -> MdfApplied
     ensures { λ r. ⌜ face r (now (out .exit))
-        ≡ callFace (applyingAt (mode .width) (now (image .entry)) address limit Other [] (now (out .entry))) ⌝ }
+        ≡ callFace (applyingAt (mode .edition) (mode .width) (now (image .entry)) address limit Other [] (now (out .entry))) ⌝ }
 {
-    applied_face(apply_at(mode.width, image, address, limit, Value::Other, b"", out))
+    apply_moded(image, address, limit, mode, Value::Other, b"", out)
 }

@@ -12,7 +12,7 @@ pub fn say(phrases: &[u8], k: usize) {
 }
 
 // The names of the refusals by their numbers.
-const NAMES: [u8; 240] = *b"00||................\
+const NAMES: [u8; 340] = *b"00||................\
     01| Outside|........\
     02| NotConversion|..\
     03| Limit|..........\
@@ -23,7 +23,12 @@ const NAMES: [u8; 240] = *b"00||................\
     08| Room|...........\
     09| Count|..........\
     10||................\
-    11| Width|..........";
+    11| Width|..........\
+    12||................\
+    13||................\
+    14||................\
+    15||................\
+    16| Edition|........";
 
 pub fn name(number: usize) {
     say(&NAMES, number);

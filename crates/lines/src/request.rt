@@ -6,8 +6,13 @@ use conversion::logic::apply;
 use modes::apply_at;
 use rules::number::Value;
 
-// A width from here on stands for none.
-pub const NO_WIDTH: u64 = 4294967296;
+// A width, or the number of an edition, from here on stands for none.
+pub const NONE: u64 = 4294967296;
+
+// Those of a call that takes none.
+const STANDARD_WIDTH: u32 = 64;
+
+const STANDARD_EDITION: u32 = 420;
 
 pub struct Request {
     pub address: u64,
@@ -27,14 +32,31 @@ impl Request {
         }
     }
 
-    // With a width below 2^32 the entry that takes one is asked, else the one that takes none.
-    pub fn ask(self, width: u64, image: &[u8], text: &[u8], out: &mut [u8]) -> Applied {
+    // With a width or an edition the entry that takes both is asked, with the standard one in the place of one that is not given; else the one that
+    // takes none.
+    pub fn ask(
+        self,
+        edition: u64,
+        width: u64,
+        image: &[u8],
+        text: &[u8],
+        out: &mut [u8],
+    ) -> Applied {
         let value = self.value;
-        if width < NO_WIDTH {
-            let bits = (width % NO_WIDTH) as u32;
-            apply_at(bits, image, self.address, self.limit, value, text, out)
+        if (edition < NONE) | (width < NONE) {
+            let e = given(edition, STANDARD_EDITION);
+            let w = given(width, STANDARD_WIDTH);
+            apply_at(e, w, image, self.address, self.limit, value, text, out)
         } else {
             apply(image, self.address, self.limit, value, text, out)
         }
+    }
+}
+
+fn given(n: u64, standard: u32) -> u32 {
+    if n < NONE {
+        (n % NONE) as u32
+    } else {
+        standard
     }
 }

@@ -1,5 +1,6 @@
--- Laws of the width, for every width, image, address, limit, text and output, over what one call answers (`applyingAt`). Assumes nothing.
-use mathlib.Core.Path.{_≡_, refl, sym, ap, _∙_}
+-- Laws of a call in a mode that is asked for in numbers, over what it answers (`applyingAt`), for every image, address, limit, text and output: the two
+-- tests, and the width. Those of the edition stand in `Editions`. Assumes nothing.
+use mathlib.Core.Path.{_≡_, refl, sym, ap, ap₂, _∙_}
 use mathlib.Core.Bool.{Bool, true, false, cond, _&&_}
 use mathlib.Core.Logic.{⊎-elim}
 use mathlib.Core.List.{List}
@@ -13,8 +14,9 @@ use lib.ListN.{length, getD}
 use lib.Pow.{pow-mono}
 use Rattle.words.proofs.Clash.{clash}
 use Rattle.common.specs.Header.{inside, isConversion}
+use Rattle.common.specs.Refusal.{numberOf}
 use Rattle.common.specs.declared.refusal.Refusal.{Refusal}
-use Rattle.common.specs.declared.refusal.Refusal.the-variants.{Outside, NotConversion, Limit, Width}
+use Rattle.common.specs.declared.refusal.Refusal.the-variants.{Outside, NotConversion, Limit, Short, Deep, Loop, Width, Edition as WrongEdition}
 use Rattle.common.specs.declared.refusal.Word.the-variants.{Bits}
 use Rattle.blocks.specs.Block.{blockAt}
 use Rattle.rules.specs.declared.number.Value.{Value}
@@ -29,10 +31,45 @@ use Rattle.conversion.specs.Entry.{Call, call, refusedBefore, byCheck, settled,
 use Rattle.conversion.specs.declared.logic.Answer.the-variants.{Refused}
 use Rattle.conversion.proofs.Demand.{untouched}
 use Rattle.conversion.proofs.DemandThree.{demand-3}
-use Rattle.modes.specs.Width.{isWidth, wide, applyingAt}
+use Rattle.modes.specs.Asked.{isEdition, isWidth, modeOf, applyingAt}
 use Rattle.modes.proofs.Same.{below, held, same-bits, same-root}
 
--- ---- the test
+-- ---- the refusals of a call that has a mode
+-- the check refuses with 1 to 6
+check-refusals : (img : List ℕ) (a l : ℕ) (r : Refusal) → checked img a l ≡ Unsound r → numberOf r ≤ 6
+unfolding checked answer
+check-refusals img a l r = go (inside img a) (isConversion img a) (ltb (l - 0) (length (trace img a .visits))) (trace img a .ending)
+  where
+    ending : (e : End) → ended (0 + length (trace img a .visits)) e ≡ Unsound r → numberOf r ≤ 6
+    ending complete p = clash cc
+    ending (fault (short x)) p = let same : Short x ≡ r = cc in omega (arith, ap numberOf same)
+    ending (fault (deep x)) p = let same : Deep x ≡ r = cc in omega (arith, ap numberOf same)
+    ending (fault (loop x)) p = let same : Loop x ≡ r = cc in omega (arith, ap numberOf same)
+
+    go : (x y z : Bool) (e : End)
+        → cond x
+        (cond y (cond z (Unsound (Limit (getD (trace img a .visits) (l - 0) 0))) (ended (0 + length (trace img a .visits)) e)) (Unsound (NotConversion a)))
+        (Unsound (Outside a)) ≡ Unsound r
+        → numberOf r ≤ 6
+    go true true true e p = let same : Limit (getD (trace img a .visits) (l - 0) 0) ≡ r = cc in omega (arith, ap numberOf same)
+    go true true false e p = ending e p
+    go true false z e p = let same : NotConversion a ≡ r = cc in omega (arith, ap numberOf same)
+    go false y z e p = let same : Outside a ≡ r = cc in omega (arith, ap numberOf same)
+
+-- a call in a mode refuses with 1 to 8
+pub one-to-eight : (mode : Mode) (img : List ℕ) (a limit : ℕ) (v : Value) (t out : List ℕ) (r : Refusal)
+    → applying mode img a limit v t out .result .answer ≡ Refused r → numberOf r ≤ 8
+one-to-eight mode img a limit v t out r p = go (checked img a limit) refl
+  where
+    go : (c : Checked) → checked img a limit ≡ c → numberOf r ≤ 8
+    go (Accepted n) e =
+        ⊎-elim (λ seven. omega (arith, seven)) (λ eight. omega (arith, eight)) (demand-3 mode img a limit v t out .accepted n e .refusals r p)
+    go (Unsound s) e =
+        let same : Refused s ≡ Refused r = sym (demand-3 mode img a limit v t out .refused s e .answer) ∙ p in
+        let it : s ≡ r = cc in
+        omega (arith, check-refusals img a limit r (e ∙ ap Unsound it))
+
+-- ---- the bits that pass
 both : (p q : Bool) → (p && q) ≡ true → q ≡ true
 both true q h = h
 both false q h = clash cc
@@ -40,114 +77,123 @@ both false q h = clash cc
 at-most-64 : (width : ℕ) → isWidth width ≡ true → width ≤ 64
 at-most-64 width h = leb-true width 64 (both (ltb 0 width) (leb width 64) h)
 
--- the check never refuses with 11
-never-width : (img : List ℕ) (a l : ℕ) → checked img a l ≡ Unsound Width → ⊥
-unfolding checked answer
-never-width img a l = go (inside img a) (isConversion img a) (ltb (l - 0) (length (trace img a .visits))) (trace img a .ending)
-  where
-    ending : (e : End) → ended (0 + length (trace img a .visits)) e ≡ Unsound Width → ⊥
-    ending complete p = clash cc
-    ending (fault (short x)) p = clash cc
-    ending (fault (deep x)) p = clash cc
-    ending (fault (loop x)) p = clash cc
-
-    go : (x y z : Bool) (e : End)
-        → cond x
-        (cond y (cond z (Unsound (Limit (getD (trace img a .visits) (l - 0) 0))) (ended (0 + length (trace img a .visits)) e)) (Unsound (NotConversion a)))
-        (Unsound (Outside a)) ≡ Unsound Width
-        → ⊥
-    go true true true e p = clash cc
-    go true true false e p = ending e p
-    go true false z e p = clash cc
-    go false y z e p = clash cc
-
--- ---- the bits that pass
 -- a mask that has no bit below the width leaves nothing
 pub none-above : (mode : Mode) (v : Value) (bits k : ℕ) → bitsOf mode v ≡ Bits bits → bitAnd bits (k * 2 ^ mode .width) ≡ 0
 none-above mode v bits k e = and-comm bits (k * 2 ^ mode .width) ∙ and-shifted k (mode .width) bits (rw e at (below mode v))
 
 -- ---- a block under bit groups
--- it gets what a mask left of the bits, and does with it what it does in document 01's mode, whatever the width
-pub under-groups : (d : ℕ) (width : ℕ) (img t : List ℕ) (a : ℕ) (v : Value) (bits mask : ℕ) → width ≤ 64 → bitsOf (wide width) v ≡ Bits bits
-    → applied d (wide width) img t a (Unsigned (bitAnd bits mask)) ≡ applied d standard img t a (Unsigned (bitAnd bits mask))
-under-groups d width img t a v bits mask h e =
-    let small = lt-of-le-of-lt (and-le-l bits mask) (rw e at (below (wide width) v)) in
-    same-bits (wide width) standard refl img t d a (Unsigned (bitAnd bits mask))
-    (held (wide width) (bitAnd bits mask) small ∙ sym (held standard (bitAnd bits mask) (lt-of-lt-of-le small (pow-mono {i = width} {j = 64} h))))
+-- it gets what a mask left of the bits, and does with it what it does at width 64, whatever the width
+pub under-groups : (d : ℕ) (edition width : ℕ) (img t : List ℕ) (a : ℕ) (v : Value) (bits mask : ℕ) → width ≤ 64
+    → bitsOf (modeOf edition width) v ≡ Bits bits
+    → applied d (modeOf edition width) img t a (Unsigned (bitAnd bits mask)) ≡ applied d (modeOf edition 64) img t a (Unsigned (bitAnd bits mask))
+under-groups d edition width img t a v bits mask h e =
+    let small = lt-of-le-of-lt (and-le-l bits mask) (rw e at (below (modeOf edition width) v)) in
+    same-bits (modeOf edition width) (modeOf edition 64) refl img t d a (Unsigned (bitAnd bits mask))
+    (held (modeOf edition width) (bitAnd bits mask) small
+    ∙ sym (held (modeOf edition 64) (bitAnd bits mask) (lt-of-lt-of-le small (pow-mono {i = width} {j = 64} h))))
 
 -- ---- one call
 module _ (img : List ℕ) (a limit : ℕ) (t out : List ℕ) where
   called : (x y : Ap) → x ≡ y → byCheck (checked img a limit) (λ n. settled n a x out) out ≡ byCheck (checked img a limit) (λ n. settled n a y out) out
   called x y e = ap (λ (z : Ap). byCheck (checked img a limit) (λ n. settled n a z out) out) e
 
-  -- two modes of one edition, at a bit-group block: the call is the same wherever the same bits of the two values pass
+  -- two modes of one edition, at a block of type 11: the call is the same wherever the same bits of the two values pass
   same-groups : (one other : Mode) → one .edition ≡ other .edition → (v w : Value) → blockAt img a .kind ≡ 11 → bitsOf one v ≡ bitsOf other w
       → applying one img a limit v t out ≡ applying other img a limit w t out
   unfolding applying
   same-groups one other e v w eleven h = called _ _ (same-root one other e img t 21 a v w eleven h)
 
-  module _ (width : ℕ) where
-    by-width : (v : Value) (is : Bool) → isWidth width ≡ is
-        → applyingAt width img a limit v t out ≡ cond is (applying (wide width) img a limit v t out) (call (refusedBefore Width) out)
+  module _ (edition width : ℕ) where
+    -- what the two tests decide
+    abbrev tested : Value → Bool → Bool → Call
+    tested v named fits =
+        cond named (cond fits (applying (modeOf edition width) img a limit v t out) (call (refusedBefore Width) out)) (call (refusedBefore WrongEdition) out)
+
+    by-tests : (v : Value) (named fits : Bool) → isEdition edition ≡ named → isWidth width ≡ fits → applyingAt edition width img a limit v t out ≡ tested v named fits
     unfolding applyingAt
-    by-width v is h = ap (λ (x : Bool). cond x (applying (wide width) img a limit v t out) (call (refusedBefore Width) out)) h
+    by-tests v named fits h k = ap₂ (λ (x y : Bool). tested v x y) h k
 
-    -- a width from 1 to 64: the call is one in that mode, so that demand 3 is that of `applying`
-    pub width-taken : (v : Value) → isWidth width ≡ true → applyingAt width img a limit v t out ≡ applying (wide width) img a limit v t out
-    width-taken v h = by-width v true h
+    -- edition 410 or 420 and a width from 1 to 64: the call is one in that mode, so that demand 3 is that of `applying`
+    pub mode-taken : (v : Value) → isEdition edition ≡ true → isWidth width ≡ true
+        → applyingAt edition width img a limit v t out ≡ applying (modeOf edition width) img a limit v t out
+    mode-taken v h k = by-tests v true true h k
 
-    -- any other width: refusal 11 and nothing else, whatever the image, the address, the limit and the value are
-    pub width-refused : (v : Value) → isWidth width ≡ false → applyingAt width img a limit v t out ≡ call (refusedBefore Width) out
-    width-refused v h = by-width v false h
+    -- any other edition: refusal 16 and nothing else, whatever the width, the image, the address, the limit and the value are
+    pub edition-refused : (v : Value) → isEdition edition ≡ false → applyingAt edition width img a limit v t out ≡ call (refusedBefore WrongEdition) out
+    edition-refused v h = by-tests v false (isWidth width) h refl
 
-    -- at a bit-group block the value's bits at and above the width do not matter: two integers that agree on the low bits give the same call
-    pub low-bits-decide : (v w : Value) → blockAt img a .kind ≡ 11 → bitsOf (wide width) v ≡ bitsOf (wide width) w
-        → applyingAt width img a limit v t out ≡ applyingAt width img a limit w t out
-    unfolding applyingAt
-    low-bits-decide v w eleven h =
-        ap (λ (c : Call). cond (isWidth width) c (call (refusedBefore Width) out)) (same-groups (wide width) (wide width) refl v w eleven h)
+    -- any other width: refusal 11 and nothing else
+    pub width-refused : (v : Value) → isEdition edition ≡ true → isWidth width ≡ false
+        → applyingAt edition width img a limit v t out ≡ call (refusedBefore Width) out
+    width-refused v h k = by-tests v true false h k
 
-    -- and the call is document 01's, of the low bits as an unsigned integer: a 4-bit -1 shows what 15 shows
-    pub as-low-bits : (v : Value) (bits : ℕ) → isWidth width ≡ true → blockAt img a .kind ≡ 11 → bitsOf (wide width) v ≡ Bits bits
-        → applyingAt width img a limit v t out ≡ applying standard img a limit (Unsigned bits) t out
-    as-low-bits v bits is eleven h =
-        width-taken v is
-        ∙ same-groups (wide width) standard refl v (Unsigned bits) eleven
-        (h ∙ sym (held standard bits (lt-of-lt-of-le (rw h at (below (wide width) v)) (pow-mono {i = width} {j = 64} (at-most-64 width is)))))
+    answered : (v : Value) (c : Call) (r : Refusal) → applyingAt edition width img a limit v t out ≡ c
+        → applyingAt edition width img a limit v t out .result .answer ≡ Refused r → c .result .answer ≡ Refused r
+    answered v c r e p = ap (λ (x : Call). x .result .answer) (sym e) ∙ p
 
-    -- whatever the blocks are: where the width lets all bits of the value pass, and for a float, a text and "other", the call is document 01's
-    pub width-unneeded : (v : Value) → isWidth width ≡ true → bitsOf (wide width) v ≡ bitsOf standard v
-        → applyingAt width img a limit v t out ≡ applying standard img a limit v t out
-    unfolding applying
-    width-unneeded v is h = width-taken v is ∙ called _ _ (same-bits (wide width) standard refl img t 21 a v h)
-
-    -- refusal 11 is given for no other reason
-    pub eleven-only : (v : Value) → applyingAt width img a limit v t out .result .answer ≡ Refused Width → isWidth width ≡ false
-    eleven-only v p = go (isWidth width) refl
+    -- refusal 16 is given for no other reason
+    pub sixteen-only : (v : Value) → applyingAt edition width img a limit v t out .result .answer ≡ Refused WrongEdition → isEdition edition ≡ false
+    sixteen-only v p = go (isEdition edition) (isWidth width) refl refl
       where
-        by-check : (c : Checked) → checked img a limit ≡ c → applying (wide width) img a limit v t out .result .answer ≡ Refused Width → ⊥
-        by-check (Accepted n) e q =
-            ⊎-elim (λ seven. omega (arith, seven)) (λ eight. omega (arith, eight))
-            (demand-3 (wide width) img a limit v t out .accepted n e .refusals Width q)
-        by-check (Unsound r) e q =
-            let same : Refused r ≡ Refused Width = sym (demand-3 (wide width) img a limit v t out .refused r e .answer) ∙ q in
-            let it : r ≡ Width = cc in
-            never-width img a limit (e ∙ ap Unsound it)
+        go : (named fits : Bool) → isEdition edition ≡ named → isWidth width ≡ fits → isEdition edition ≡ false
+        go true true h k =
+            absurd (omega (arith, one-to-eight (modeOf edition width) img a limit v t out WrongEdition (answered v _ WrongEdition (mode-taken v h k) p)))
+        go true false h k = let same : Refused Width ≡ Refused WrongEdition = answered v _ WrongEdition (width-refused v h k) p in clash cc
+        go false fits h k = h
 
-        go : (is : Bool) → isWidth width ≡ is → isWidth width ≡ false
-        go true e = absurd (by-check (checked img a limit) refl (ap (λ (c : Call). c .result .answer) (sym (width-taken v e)) ∙ p))
-        go false e = e
+    -- refusal 11 is given for no other reason, and only where the edition is right
+    pub eleven-only : (v : Value) → applyingAt edition width img a limit v t out .result .answer ≡ Refused Width
+        → (isEdition edition ≡ true) × (isWidth width ≡ false)
+    eleven-only v p = go (isEdition edition) (isWidth width) refl refl
+      where
+        go : (named fits : Bool) → isEdition edition ≡ named → isWidth width ≡ fits → (isEdition edition ≡ true) × (isWidth width ≡ false)
+        go true true h k =
+            absurd (omega (arith, one-to-eight (modeOf edition width) img a limit v t out Width (answered v _ Width (mode-taken v h k) p)))
+        go true false h k = (h, k)
+        go false fits h k = let same : Refused WrongEdition ≡ Refused Width = answered v _ Width (edition-refused v h) p in clash cc
 
     -- a refusal leaves the output as it was
-    pub kept-at : (v : Value) (r : Refusal) → applyingAt width img a limit v t out .result .answer ≡ Refused r → applyingAt width img a limit v t out .output ≡ out
+    pub kept-at : (v : Value) (r : Refusal) → applyingAt edition width img a limit v t out .result .answer ≡ Refused r
+        → applyingAt edition width img a limit v t out .output ≡ out
     unfolding applyingAt
-    kept-at v r = go (isWidth width)
+    kept-at v r = go (isEdition edition) (isWidth width)
       where
-        go : (is : Bool) → cond is (applying (wide width) img a limit v t out) (call (refusedBefore Width) out) .result .answer ≡ Refused r
-            → cond is (applying (wide width) img a limit v t out) (call (refusedBefore Width) out) .output ≡ out
-        go true p = untouched (wide width) img a limit v t out r p
-        go false p = refl
+        go : (named fits : Bool) → tested v named fits .result .answer ≡ Refused r → tested v named fits .output ≡ out
+        go true true p = untouched (modeOf edition width) img a limit v t out r p
+        go true false p = refl
+        go false fits p = refl
 
-  -- width 64 is document 01's rule: the entry then answers what `apply` answers
-  pub width-64 : (v : Value) → applyingAt 64 img a limit v t out ≡ applying standard img a limit v t out
-  width-64 v = width-taken 64 v refl
+    -- at a block of type 11 the value's bits at and above the width do not matter: two integers that agree on the low bits give the same call
+    pub low-bits-decide : (v w : Value) → blockAt img a .kind ≡ 11 → bitsOf (modeOf edition width) v ≡ bitsOf (modeOf edition width) w
+        → applyingAt edition width img a limit v t out ≡ applyingAt edition width img a limit w t out
+    unfolding applyingAt
+    low-bits-decide v w eleven h =
+        ap
+        (λ (c : Call). cond (isEdition edition) (cond (isWidth width) c (call (refusedBefore Width) out)) (call (refusedBefore WrongEdition) out))
+        (same-groups (modeOf edition width) (modeOf edition width) refl v w eleven h)
+
+  module _ (edition width : ℕ) (named : isEdition edition ≡ true) (fits : isWidth width ≡ true) where
+    -- and the call is that of the low bits as an unsigned integer at width 64: a 4-bit -1 shows what 15 shows
+    pub as-low-bits : (v : Value) (bits : ℕ) → blockAt img a .kind ≡ 11 → bitsOf (modeOf edition width) v ≡ Bits bits
+        → applyingAt edition width img a limit v t out ≡ applyingAt edition 64 img a limit (Unsigned bits) t out
+    as-low-bits v bits eleven h =
+        mode-taken edition width v named fits
+        ∙ same-groups (modeOf edition width) (modeOf edition 64) refl v (Unsigned bits) eleven
+        (h
+        ∙ sym
+        (held (modeOf edition 64) bits
+        (lt-of-lt-of-le (rw h at (below (modeOf edition width) v)) (pow-mono {i = width} {j = 64} (at-most-64 width fits)))))
+        ∙ sym (mode-taken edition 64 (Unsigned bits) named refl)
+
+    -- whatever the blocks are: where the width lets all bits of the value pass, and for a float, a text and "other", the call is that of width 64
+    pub width-unneeded : (v : Value) → bitsOf (modeOf edition width) v ≡ bitsOf (modeOf edition 64) v
+        → applyingAt edition width img a limit v t out ≡ applyingAt edition 64 img a limit v t out
+    unfolding applying
+    width-unneeded v h =
+        mode-taken edition width v named fits
+        ∙ called _ _ (same-bits (modeOf edition width) (modeOf edition 64) refl img t 21 a v h)
+        ∙ sym (mode-taken edition 64 v named refl)
+
+  -- edition 4.20 and width 64 are document 01's rule: the entry then answers what `apply` answers
+  pub standard-at : (v : Value) → applyingAt 420 64 img a limit v t out ≡ applying standard img a limit v t out
+  standard-at v = mode-taken 420 64 v refl refl

@@ -1,2 +1,4 @@
 pub mod Same
+pub mod Alike
 pub mod Laws
+pub mod Editions

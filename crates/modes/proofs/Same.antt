@@ -1,5 +1,5 @@
--- Two modes that let the same bits of a value pass apply a conversion alike: a nested block gets the value itself, or a part of those bits, of which
--- both let pass all. Assumes nothing.
+-- Two modes of one edition that let the same bits of a value pass apply a conversion alike: a nested block gets the value itself, or a part of those
+-- bits, of which both let pass all. Assumes nothing.
 use mathlib.Core.Path.{_≡_, refl, sym, ap, ap₂, subst, _∙_}
 use mathlib.Core.Bool.{Bool, true, false, cond}
 use mathlib.Core.List.{List}
@@ -30,7 +30,7 @@ use Rattle.rules.specs.declared.number.Value.{Value}
 use Rattle.rules.specs.declared.number.Value.the-variants.{Unsigned, Signed, Float, Text, Other}
 use Rattle.steps.specs.Mode.{bitsOf}
 use Rattle.steps.specs.Choice.{chosenKey, chosenRange, malformedRange}
-use Rattle.steps.specs.Step.{groupedIn, typed, unlessCut, stepOf}
+use Rattle.steps.specs.Step.{groupedIn, grouped, typed, unlessCut, stepOf}
 use Rattle.steps.specs.declared.mode.Mode.{Mode}
 use Rattle.steps.specs.declared.mode.Edition.{Edition}
 use Rattle.steps.specs.declared.mode.Edition.the-variants.{Mdf410, Mdf420}
@@ -60,7 +60,7 @@ held mode n h = ap Bits (mod-eq-of-lt h)
 
 -- ---- one block, given that the nested ones agree on what it gives them
 module _ (one other : ℕ → Value → Ap) (img : List ℕ) where
-  abbrev Agree : Value → Type 0
+  abbrev pub Agree : Value → Type 0
   Agree v = (a : ℕ) → one a v ≡ other a v
 
   passed : (v : Value) → Agree v → (c : Choice) → passedOn one img v c ≡ passedOn other img v c
@@ -74,23 +74,23 @@ module _ (one other : ℕ → Value → Ap) (img : List ℕ) where
   parted m same lead.Elsewhere = refl
 
   module _ (b : View) (bits : ℕ) (same : (i : ℕ) → Agree (Unsigned (bitAnd bits (maskAt img b i)))) where
-    grouped : (n : ℕ) → groups one img b bits n ≡ groups other img b bits n
+    so-many : (n : ℕ) → groups one img b bits n ≡ groups other img b bits n
     unfolding groups
-    grouped zero = refl
-    grouped (suc i) = ap₂ more (grouped i) (parted (bitAnd bits (maskAt img b i)) (same i) (leadAt img b i))
+    so-many zero = refl
+    so-many (suc i) = ap₂ more (so-many i) (parted (bitAnd bits (maskAt img b i)) (same i) (leadAt img b i))
 
     all-groups : bitGroups one img b bits ≡ bitGroups other img b bits
     unfolding bitGroups
-    all-groups = ap gathered (grouped (groupCount b))
+    all-groups = ap gathered (so-many (groupCount b))
 
   -- what a block gives the nested ones: types 7 and 8 the value, bit groups what the masks leave
-  abbrev AgreeOn : Value → Step → Type 0
+  abbrev pub AgreeOn : Value → Step → Type 0
   AgreeOn v (ByKey b) = Agree v
   AgreeOn v (ByRange b) = Agree v
   AgreeOn v (ByBits b bits) = (i : ℕ) → Agree (Unsigned (bitAnd bits (maskAt img b i)))
   AgreeOn v (Done p) = Unit {0}
 
-  one-block : (v : Value) (s : Step) → AgreeOn v s → ruled one img v s ≡ ruled other img v s
+  pub one-block : (v : Value) (s : Step) → AgreeOn v s → ruled one img v s ≡ ruled other img v s
   one-block v (ByKey b) same = passed v same (chosenKey img b (taken v))
   one-block v (ByRange b) same = ap (noting (malformedRange img b (taken v))) (passed v same (chosenRange img b (taken v)))
   one-block v (ByBits b bits) same = all-groups b bits same
@@ -133,9 +133,11 @@ module _ (mode : Mode) (img t : List ℕ) where
   unfolding stepOf
   below-step a v = below-seen v (seen img a)
 
--- ---- two modes of one edition
-module _ (one other : Mode) (edition : one .edition ≡ other .edition) (img t : List ℕ) where
-  same-typed : (b : View) (v : Value) (k : ConversionType) → bitsOf one v ≡ bitsOf other v → typed one img t b v k ≡ typed other img t b v k
+-- ---- two modes
+module _ (one other : Mode) (img t : List ℕ) where
+  -- only type 11 looks at the mode
+  pub same-typed : (b : View) (v : Value) (k : ConversionType) → (k ≡ kind.BitGroups → grouped one b v ≡ grouped other b v)
+      → typed one img t b v k ≡ typed other img t b v k
   same-typed b v kind.Identity h = refl
   same-typed b v kind.Linear h = refl
   same-typed b v kind.Rational h = refl
@@ -147,16 +149,21 @@ module _ (one other : Mode) (edition : one .edition ≡ other .edition) (img t :
   same-typed b v kind.RangeToText h = refl
   same-typed b v kind.TextToValue h = refl
   same-typed b v kind.TextToText h = refl
-  same-typed b v kind.BitGroups h = ap₂ (λ (e : Edition) (w : Word). groupedIn e b w) edition h
+  same-typed b v kind.BitGroups h = h refl
   same-typed b v (kind.Unknown n) h = refl
 
-  same-seen : (v : Value) (s : Seen) → bitsOf one v ≡ bitsOf other v → unlessCut one img t v s ≡ unlessCut other img t v s
-  same-seen v (Open b) h = same-typed b v (typeOf (b .kind)) h
+  same-seen : (v : Value) (s : Seen) → ((b : View) → grouped one b v ≡ grouped other b v) → unlessCut one img t v s ≡ unlessCut other img t v s
+  same-seen v (Open b) h = same-typed b v (typeOf (b .kind)) (λ _. h b)
   same-seen v Cut h = refl
 
-  same-step : (a : ℕ) (v : Value) → bitsOf one v ≡ bitsOf other v → stepOf one img t a v ≡ stepOf other img t a v
+  pub same-step : (a : ℕ) (v : Value) → ((b : View) → grouped one b v ≡ grouped other b v) → stepOf one img t a v ≡ stepOf other img t a v
   unfolding stepOf
   same-step a v h = same-seen v (seen img a) h
+
+-- ---- two modes of one edition
+module _ (one other : Mode) (edition : one .edition ≡ other .edition) (img t : List ℕ) where
+  same-grouped : (v w : Value) → bitsOf one v ≡ bitsOf other w → (b : View) → grouped one b v ≡ grouped other b w
+  same-grouped v w h b = ap₂ (λ (e : Edition) (x : Word). groupedIn e b x) edition h
 
   -- what a mask leaves of bits that both let pass, both let pass
   masked : (bits m : ℕ) → bits < 2 ^ one .width → bits < 2 ^ other .width → bitsOf one (Unsigned (bitAnd bits m)) ≡ bitsOf other (Unsigned (bitAnd bits m))
@@ -176,7 +183,7 @@ module _ (one other : Mode) (edition : one .edition ≡ other .edition) (img t :
   unfolding applied
   same-bits zero a v h = refl
   same-bits (suc d) a v h =
-      let same = same-step a v h in
+      let same = same-step one other img t a v (same-grouped v v h) in
       let both = agree (applied d one img t) (applied d other img t) (λ x w k. same-bits d x w k) v h (stepOf one img t a v) (below-step one img t a v)
       (subst (BelowIn other img t) (sym same) (below-step other img t a v)) in
       ap (begin a)
@@ -203,7 +210,7 @@ module _ (one other : Mode) (edition : one .edition ≡ other .edition) (img t :
       (λ (k : ℕ). ruled (applied d one img t) img v (typed one img t b v (typeOf k)) ≡ ruled (applied d other img t) img w (typed other img t b w (typeOf k)))
       (sym eleven)
       (by-groups d (one .edition) b v w (bitsOf one v) (below one v) (subst (Below other) (sym h) (below other w))
-      ∙ ap₂ (λ (e : Edition) (x : Word). ruled (applied d other img t) img w (groupedIn e b x)) edition h)
+      ∙ ap (ruled (applied d other img t) img w) (same-grouped v w h b))
   of-root d a v w eleven h false = refl
 
   -- two modes and two values: of a bit-group block the application is the same wherever the same bits pass

@@ -1,5 +1,5 @@
-// Applying in a mode that the caller gives in numbers: the width of the signal (request [2]). The crate has no such entry; its rule is that of
-// width 64.
+// Applying in a mode that the caller gives in numbers: the edition of MDF (request [8]) and the width of the signal (request [2]). The crate has no
+// such entry; its rule is that of edition 4.20 and width 64.
 use common::refusal::Refusal;
 use conversion::logic::Applied;
 use conversion::logic::apply_in;
@@ -8,7 +8,14 @@ use steps::mode::Edition;
 use steps::mode::Mode;
 ghost use mathlib.Core.Path.{_≡_};
 ghost use Rattle.conversion.specs.Entry.{call};
-ghost use Rattle.modes.specs.Width.{isWidth, applyingAt};
+ghost use Rattle.modes.specs.Asked.{isEdition, isWidth, editionOf, modeOf, applyingAt};
+
+// The editions that differ in what a conversion does are 4.10 and 4.20.
+pub fn is_edition(edition: u32) -> bool
+    ensures { λ r. ⌜ r ≡ isEdition edition ⌝ }
+{
+    (edition == 410) | (edition == 420)
+}
 
 // A signal has 1 to 64 bits.
 pub fn is_width(width: u32) -> bool
@@ -17,9 +24,27 @@ pub fn is_width(width: u32) -> bool
     (0 < width) & (width <= 64)
 }
 
-// As `apply`, for a signal of so many bits: of a whole number only so many low bits reach the masks of bit groups. A wrong width is refused before
-// anything else is looked at.
+fn edition_of(edition: u32) -> Edition
+    ensures { λ r. ⌜ r ≡ editionOf edition ⌝ }
+{
+    if edition == 410 {
+        Edition::Mdf410
+    } else {
+        Edition::Mdf420
+    }
+}
+
+fn mode_of(edition: u32, width: u32) -> Mode
+    ensures { λ r. ⌜ r ≡ modeOf edition width ⌝ }
+{
+    let edition = edition_of(edition);
+    Mode { width, edition }
+}
+
+// As `apply`, in an edition and for a signal of so many bits. In 4.10 a block of type 11 leaves its value unchanged; in 4.20 no more than so many low
+// bits of a whole number reach its masks. A wrong edition is refused before a wrong width, and either before anything else is looked at.
 pub fn apply_at(
+    edition: u32,
     width: u32,
     image: &[u8],
     address: u64,
@@ -28,15 +53,24 @@ pub fn apply_at(
     text: &[u8],
     out: &mut [u8],
 ) -> Applied
-    ensures { λ r. ⌜ call r (now (out .exit)) ≡ applyingAt width (now (image .entry)) address limit value (now (text .entry)) (now (out .entry)) ⌝ }
+    ensures { λ r. ⌜ call r (now (out .exit))
+        ≡ applyingAt edition width (now (image .entry)) address limit value (now (text .entry)) (now (out .entry)) ⌝ }
 {
-    if is_width(width) {
-        let mode = Mode {
-            width,
-            edition: Edition::Mdf420,
-        };
-        apply_in(mode, image, address, limit, value, text, out)
+    if is_edition(edition) {
+        if is_width(width) {
+            apply_in(
+                mode_of(edition, width),
+                image,
+                address,
+                limit,
+                value,
+                text,
+                out,
+            )
+        } else {
+            Applied::refused(Refusal::Width)
+        }
     } else {
-        Applied::refused(Refusal::Width)
+        Applied::refused(Refusal::Edition)
     }
 }

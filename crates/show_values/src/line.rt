@@ -12,12 +12,12 @@ use lines::decimal;
 use lines::parts::part;
 use lines::parts::room;
 use lines::parts::word;
-use lines::request::NO_WIDTH;
+use lines::request::NONE;
 use lines::request::Request;
 use rules::number::Value;
 
-// A line names the width of the signal where the request has one, and the visit limit and the room where they are not the usual ones: this limit, and
-// the most room.
+// A line names the width of the signal and the edition where the request has one, and the visit limit and the room where they are not the usual ones:
+// this limit, and the most room.
 const LIMIT: u32 = 4096;
 
 const ROOM: usize = 4096;
@@ -75,10 +75,21 @@ fn value(v: Value, text: &[u8]) {
     }
 }
 
-fn limits(r: Request, width: u64) {
-    if width < NO_WIDTH {
+// 410 is edition 4.10.
+fn edition(number: u64) {
+    labelled(say::EDITION, number / 100);
+    labelled(say::POINT, number / 10 % 10);
+    io::print_decimal(1, number % 10);
+    say(say::CLOSE);
+}
+
+fn limits(r: Request, number: u64, width: u64) {
+    if width < NONE {
         labelled(say::WIDTH, width);
         say(say::CLOSE);
+    }
+    if number < NONE {
+        edition(number);
     }
     if r.limit != LIMIT {
         labelled(say::LIMIT, r.limit as u64);
@@ -139,19 +150,19 @@ fn counts(checked: u32, applied: u32, malformed: bool) {
 fn text_in(request: &[u8]) -> &[u8] {
     let length = word(request, 16) as usize;
     match word(request, 8) {
-        3 => part(request, 48, std::num::wrapping_add_usize(48, length)),
-        _ => part(request, 48, 48),
+        3 => part(request, 56, std::num::wrapping_add_usize(56, length)),
+        _ => part(request, 56, 56),
     }
 }
 
 // The value is converted with the room that the request asks for, and the line is written.
-fn convert(image: &[u8], r: Request, width: u64, text: &[u8], lent: &mut [u8]) {
+fn convert(image: &[u8], r: Request, number: u64, width: u64, text: &[u8], lent: &mut [u8]) {
     let v = r.value;
     let links = links_of(image, r.address);
     title(image, links.name, r.address);
     value(v, text);
-    limits(r, width);
-    let x = r.ask(width, image, text, lent);
+    limits(r, number, width);
+    let x = r.ask(number, width, image, text, lent);
     let a = x.answer;
     answer(image, a, v, links.unit, lent);
     counts(x.checked, x.applied, x.malformed);
@@ -161,5 +172,13 @@ pub fn write(image: &[u8], request: &[u8]) {
     let r = Request::read(request);
     let mut out = io::buffer();
     let width = word(request, 40);
-    convert(image, r, width, text_in(request), room(&mut out, 0, r.room));
+    let number = word(request, 48);
+    convert(
+        image,
+        r,
+        number,
+        width,
+        text_in(request),
+        room(&mut out, 0, r.room),
+    );
 }

@@ -1,11 +1,11 @@
 // Converts values by the conversions of an MDF image, and writes for each a line: the conversion's name, the value, its answer, and how many
 // blocks were checked and applied.
 //
-// Standard input has at most 65535 bytes, numbers little-endian: the number of requests in 8 bytes, the requests, 64 bytes each, and the image
+// Standard input has at most 65535 bytes, numbers little-endian: the number of requests in 8 bytes, the requests, 72 bytes each, and the image
 // up to the end. A request has eight bytes each for the conversion's address, the kind of the value, the value, the visit limit, the room for a
-// text answer, at most 4096 bytes, and the width of the signal, 2^32 where it names none; then 16 bytes for the text of a value that is one, with
-// zeros behind it. Kind 0 is unsigned, 1 signed in two's complement, 2 a float by its 64 bits, 3 a text, whose length stands for the value, and 4
-// other.
+// text answer, at most 4096 bytes, the width of the signal, and the number of the edition, these two 2^32 where it names none; then 16 bytes for the
+// text of a value that is one, with zeros behind it. Kind 0 is unsigned, 1 signed in two's complement, 2 a float by its 64 bits, 3 a text, whose length
+// stands for the value, and 4 other.
 mod line;
 mod say;
 
@@ -14,22 +14,22 @@ use lines::parts::word;
 ghost use Prim.Native.Nat.{_≤_};
 
 // The most requests that the input has room for.
-const MOST: u64 = 1023;
+const MOST: u64 = 910;
 
 // One request after the other.
 fn list(input: &[u8], count: usize)
-    requires { ⌜ count ≤ 1023 ⌝ }
+    requires { ⌜ count ≤ 910 ⌝ }
 {
-    let image = part(input, 8 + 64 * count, input.len());
+    let image = part(input, 8 + 72 * count, input.len());
     for i in 0..count {
-        line::write(image, part(input, 8 + 64 * i, 72 + 64 * i));
+        line::write(image, part(input, 8 + 72 * i, 80 + 72 * i));
     }
 }
 
 fn list_checked(input: &[u8]) {
     let count = word(input, 0);
     if count <= MOST {
-        if 8 + 64 * count <= input.len() as u64 {
+        if 8 + 72 * count <= input.len() as u64 {
             list(input, count as usize);
             return;
         }

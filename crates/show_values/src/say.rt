@@ -57,7 +57,11 @@ const TABLE: usize = 26;
 
 pub const WIDTH: usize = 27;
 
-const PHRASES: [u8; 560] = *b"00||................\
+pub const EDITION: usize = 28;
+
+pub const POINT: usize = 29;
+
+const PHRASES: [u8; 600] = *b"00||................\
     01| at |............\
     02|Address |........\
     03|: |..............\
@@ -84,7 +88,9 @@ const PHRASES: [u8; 560] = *b"00||................\
     24|)\n|..............\
     25|, odd range|.....\
     26| table|..........\
-    27| (width |........";
+    27| (width |........\
+    28| (edition |......\
+    29|.|...............";
 
 pub fn say(k: usize) {
     lines::phrase::say(&PHRASES, k);

@@ -144,14 +144,14 @@ pub fn apply(image: &[u8], address: u64, limit: u32, value: Value<'_>, out: &mut
     outcome(call(image, address, limit, value, out))
 }
 
-/// Applies as [`apply`] does, in a mode: bit groups see no more than the low bits that the signal has.
+/// Applies as [`apply`] does, in a mode: bit groups see no more than the low bits that the signal has, and in a file of edition 4.10 there are none.
 ///
 /// # Errors
 ///
 /// 11 [`Refusal::Width`] where the width is 0 or above 64, before anything else is looked at; then the refusals of [`apply`].
 ///
 /// ```
-/// use mdf_conversion::{apply_in, Mode, Refusal, Value};
+/// use mdf_conversion::{apply_in, Answer, Edition, Mode, Refusal, Value};
 ///
 /// let image = std::fs::read("../../samples/tractor.mdf").unwrap();
 /// let mut out = [0; 64];
@@ -161,6 +161,9 @@ pub fn apply(image: &[u8], address: u64, limit: u32, value: Value<'_>, out: &mut
 /// assert_eq!(transmission.text(&out), Some(b"PTO".as_slice()));
 /// let refused = apply_in(&image, u64::MAX, 0, Mode::width(65), Value::from(6u64), &mut out);
 /// assert_eq!(refused, Err(Refusal::Width));
+/// // In a file of edition 4.10 its type is unknown.
+/// let older = apply_in(&image, 2488, 4096, Mode::STANDARD.edition(Edition::Mdf410), Value::from(6u64), &mut out)?;
+/// assert_eq!(older.answer, Answer::Unchanged);
 /// # Ok::<(), Refusal>(())
 /// ```
 pub fn apply_in(image: &[u8], address: u64, limit: u32, mode: Mode, value: Value<'_>, out: &mut [u8]) -> Result<Applied, Refusal> {

@@ -22,6 +22,8 @@
 //! # Ok::<(), Refusal>(())
 //! ```
 //!
+//! [`apply_in`] is also told the [`Mode`]: how many bits the signal has, and the file's [`Edition`], 4.10 or 4.20. Bit groups depend on both.
+//!
 //! A call computes in the float environment that a program starts with: results round to nearest, and no subnormal number is flushed to zero. In a
 //! program that has changed it, an answer can be another.
 //!
@@ -35,7 +37,7 @@
 //!
 //! So the limit and the length of `out` are the caller's brake. Choose a limit well above the nested blocks that one conversion is expected to have:
 //! 4096 is generous. Choose `out` as long as the longest text that can be shown: a longer one is [`Refusal::Room`] at no more cost. A call takes at
-//! most 8,936 bytes of stack, and no heap.
+//! most 9,096 bytes of stack, and no heap.
 #![no_std]
 #![warn(missing_docs)]
 
@@ -58,6 +60,6 @@ mod types;
 pub use applying::{apply, apply_in, translate, Answer, Applied, Value};
 pub use block::{ConversionBlock, PhysicalRange};
 pub use checking::check;
-pub use mode::Mode;
+pub use mode::{Edition, Mode};
 pub use refusal::{Refusal, Stopped, Visits};
 pub use types::{ConversionType, UnknownType};

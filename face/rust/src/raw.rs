@@ -23,6 +23,7 @@ pub struct Applied {
 #[derive(Clone, Copy)]
 pub struct Mode {
     pub width: u32,
+    pub edition: u32,
 }
 
 #[repr(C)]

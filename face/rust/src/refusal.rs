@@ -65,6 +65,8 @@ pub enum Refusal {
     Count,
     /// 11: the width of a [`Mode`](crate::Mode) is 0 or above 64.
     Width,
+    /// 16: the number of an [`Edition`](crate::Edition) is neither 410 nor 420.
+    Edition,
 }
 
 impl Refusal {
@@ -82,6 +84,7 @@ impl Refusal {
             Refusal::Room(_) => 8,
             Refusal::Count => 9,
             Refusal::Width => 11,
+            Refusal::Edition => 16,
         }
     }
 
@@ -99,6 +102,7 @@ impl Refusal {
             Refusal::Room(_) => "Room",
             Refusal::Count => "Count",
             Refusal::Width => "Width",
+            Refusal::Edition => "Edition",
         }
     }
 
@@ -112,7 +116,7 @@ impl Refusal {
             | Refusal::Short(address)
             | Refusal::Deep(address)
             | Refusal::Loop(address) => Some(address),
-            Refusal::Formula(_) | Refusal::Room(_) | Refusal::Count | Refusal::Width => None,
+            Refusal::Formula(_) | Refusal::Room(_) | Refusal::Count | Refusal::Width | Refusal::Edition => None,
         }
     }
 
@@ -146,6 +150,7 @@ impl Refusal {
             5 => Refusal::Deep(address),
             6 => Refusal::Loop(address),
             11 => Refusal::Width,
+            16 => Refusal::Edition,
             _ => unreachable!("the archive refuses with the number {number}"),
         }
     }

@@ -26,7 +26,7 @@ pub enum ConversionType {
     TextToValue,
     /// 10: a text to a text.
     TextToText,
-    /// 11: bit groups, joined to one text.
+    /// 11: bit groups, joined to one text. In [`Edition::Mdf410`](crate::Edition::Mdf410) the value stays as it is.
     BitfieldText,
     /// Any other number. The value stays as it is.
     Unknown(UnknownType),

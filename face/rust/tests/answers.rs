@@ -4,7 +4,7 @@
 mod image;
 
 use image::Image;
-use mdf_conversion::{apply, apply_in, check, translate, Answer, Applied, ConversionBlock, ConversionType, Mode, Refusal, Value, Visits};
+use mdf_conversion::{apply, apply_in, check, translate, Answer, Applied, ConversionBlock, ConversionType, Edition, Mode, Refusal, Value, Visits};
 
 #[test]
 fn the_text_of_an_answer() {
@@ -54,6 +54,28 @@ fn only_a_number_that_is_not_known_is_unknown() {
     }
 }
 
+#[test]
+fn editions_by_their_numbers() {
+    for (edition, number) in [(Edition::Mdf410, 410), (Edition::Mdf420, 420)] {
+        assert_eq!(edition.number(), number);
+        assert_eq!(Edition::try_from(number), Ok(edition));
+    }
+    for number in [0, 4, 41, 400, 409, 411, 419, 421, 430, 410 + (1 << 16), u32::MAX] {
+        assert_eq!(Edition::try_from(number), Err(Refusal::Edition));
+    }
+}
+
+#[test]
+fn modes_name_a_width_and_an_edition() {
+    const OLDER: Mode = Mode::width(4).edition(Edition::Mdf410);
+    assert_eq!((Mode::default(), Mode::STANDARD), (Mode::width(64), Mode::width(64)));
+    assert_eq!(Edition::default(), Edition::Mdf420);
+    assert_eq!(Mode::STANDARD.edition(Edition::Mdf420), Mode::STANDARD);
+    assert_eq!(OLDER.edition(Edition::Mdf420), Mode::width(4));
+    assert_ne!(OLDER, Mode::width(4));
+    assert_ne!(OLDER, Mode::STANDARD.edition(Edition::Mdf410));
+}
+
 // Each expectation is an error of this file where the compiler does not warn of the answer that is dropped.
 #[test]
 fn an_answer_that_is_dropped_is_warned_of() {
@@ -67,6 +89,12 @@ fn an_answer_that_is_dropped_is_warned_of() {
     apply_in(image, 0, 1, Mode::STANDARD, Value::Other, &mut []);
     #[expect(unused_must_use)]
     Mode::width(4);
+    #[expect(unused_must_use)]
+    Mode::STANDARD.edition(Edition::Mdf410);
+    #[expect(unused_must_use)]
+    Edition::Mdf410.number();
+    #[expect(unused_must_use)]
+    Edition::try_from(410);
     #[expect(unused_must_use)]
     check(image, 0, 1);
     #[expect(unused_must_use)]

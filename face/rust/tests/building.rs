@@ -70,4 +70,10 @@ fn a_package_of_a_user() {
     let with = |kind: &str| format!("#![no_std]\npub const TYPE: mdf_conversion::ConversionType = mdf_conversion::ConversionType::Unknown({kind});");
     assert!(package.check("here", &[], &with("1")).unwrap_err().contains("error[E0308]"));
     assert!(package.check("here", &[], &with("mdf_conversion::UnknownType(1)")).unwrap_err().contains("error[E0423]"));
+
+    // No edition can be named but the two. A mode can be a constant.
+    let of = |edition: &str| format!("#![no_std]\nuse mdf_conversion::{{Edition, Mode}};\npub const MODE: Mode = Mode::STANDARD.edition({edition});");
+    assert_eq!(package.check("here", &[], &of("Edition::Mdf410")), Ok(()));
+    assert!(package.check("here", &[], &of("400")).unwrap_err().contains("error[E0308]"));
+    assert!(package.check("here", &[], &of("Edition::Mdf400")).unwrap_err().contains("error[E0599]"));
 }

@@ -1,14 +1,16 @@
-//! Every line of document 01's "Cases", every refusal from 1 to 9 and 11, malformed tables and widths, through the safe functions.
+//! Every line of document 01's "Cases", every refusal from 1 to 9 and 11, malformed tables, widths and editions, through the safe functions.
 #[allow(dead_code)]
 mod image;
 
 use image::Image;
 use mdf_conversion::{
-    apply, apply_in, check, translate, Answer, Applied, ConversionBlock, ConversionType, Mode, PhysicalRange, Refusal, Stopped, Value, Visits,
+    apply, apply_in, check, translate, Answer, Applied, ConversionBlock, ConversionType, Edition, Mode, PhysicalRange, Refusal, Stopped, Value,
+    Visits,
 };
 
 const LIMIT: u32 = 4096;
 const FILL: u8 = 0xa5;
+const OLDER: Mode = Mode::STANDARD.edition(Edition::Mdf410);
 
 use Value::{Float, Other, SignedInteger as Signed, Text, UnsignedInteger as Unsigned};
 
@@ -32,13 +34,15 @@ fn apply_at(image: &Image, address: u64, limit: u32, mode: Mode, value: Value<'_
     in_a_buffer(room, |out| apply_in(&image.bytes, address, limit, mode, value, out))
 }
 
-/// Applies without a mode. In the standard one the answer has the same bits, and a width that is none is refused before all else.
+/// Applies without a mode. In the standard one the answer has the same bits, and a width that is none is refused before all else in both editions.
 fn apply_within(image: &Image, address: u64, limit: u32, value: Value<'_>, room: usize) -> (Outcome, Vec<u8>) {
     let plain = in_a_buffer(room, |out| apply(&image.bytes, address, limit, value, out));
     let standard = apply_at(image, address, limit, Mode::STANDARD, value, room);
     assert_eq!(format!("{standard:?}"), format!("{plain:?}"));
-    for width in [0, 65, u32::MAX] {
-        assert_eq!(apply_at(image, address, limit, Mode::width(width), value, room), (Err(Refusal::Width), Vec::new()));
+    for width in [0, 65, u32::MAX].map(Mode::width) {
+        for mode in [width, width.edition(Edition::Mdf410)] {
+            assert_eq!(apply_at(image, address, limit, mode, value, room), (Err(Refusal::Width), Vec::new()));
+        }
     }
     plain
 }
@@ -52,9 +56,11 @@ fn stopped(checked: u32, applied: u32) -> Stopped {
     Stopped { visits: visits(checked, applied), malformed: false }
 }
 
+/// One block of any type but 11 gives this answer, in 4.10 too.
 fn answers(image: &Image, address: u64, value: Value<'_>, answer: Answer) {
     let (outcome, _) = apply_within(image, address, LIMIT, value, 64);
     assert_eq!(outcome, Ok(Applied { answer, visits: visits(1, 1), malformed: false }));
+    assert_eq!(apply_at(image, address, LIMIT, OLDER, value, 64).0, outcome);
 }
 
 fn text_and_table(image: &Image, address: u64, value: Value<'_>, text: &[u8], seen: Visits, malformed: bool) {
@@ -67,11 +73,12 @@ fn gives_text(image: &Image, address: u64, value: Value<'_>, text: &[u8], seen: 
     text_and_table(image, address, value, text, seen, false);
 }
 
-/// The check refuses, and so does applying each kind of value.
+/// The check refuses, and so does applying each kind of value in either edition.
 fn is_unsound(image: &Image, address: u64, limit: u32, refusal: Refusal) {
     assert_eq!(check(&image.bytes, address, limit), Err(refusal));
     for value in [Unsigned(1), Signed(-1), Float(0.5), Text(b"x"), Other] {
         assert_eq!(apply_within(image, address, limit, value, 64).0, Err(refusal));
+        assert_eq!(apply_at(image, address, limit, OLDER, value, 64).0, Err(refusal));
     }
 }
 
@@ -260,6 +267,83 @@ fn a_width_below_other_blocks() {
     }
     assert_eq!(apply_at(&image, groups, LIMIT, Mode::width(4), Signed(-1), 15).0, Err(Refusal::Room(Some(stopped(4, 4)))));
     assert_eq!(Mode::default(), Mode::width(64));
+}
+
+/// In 4.10 the value stays as it is, whatever the width, without any room. N is what the check says.
+fn stays_in_4_10(image: &Image, address: u64, value: Value<'_>, seen: Visits, malformed: bool) {
+    assert_eq!(check(&image.bytes, address, LIMIT), Ok(seen.checked));
+    for width in 1..=64 {
+        let (outcome, _) = apply_at(image, address, LIMIT, Mode::width(width).edition(Edition::Mdf410), value, 0);
+        assert_eq!(outcome, Ok(Applied { answer: Answer::Unchanged, visits: seen, malformed }));
+    }
+}
+
+#[test]
+fn bit_groups_are_unknown_in_4_10() {
+    let mut image = Image::new();
+    let groups = masks_around(&mut image, 4);
+    for value in [Unsigned(0), Unsigned(u64::MAX), Signed(8), Signed(-1), Float(8.0), Float(f64::NAN), Text(b"below"), Text(b""), Other] {
+        stays_in_4_10(&image, groups, value, visits(4, 1), false);
+    }
+    gives_text(&image, groups, Signed(-1), b"below|both|above", visits(4, 4));
+    shows(&image, groups, 4, Signed(-1), "below|below|none", visits(4, 4));
+}
+
+#[test]
+fn bit_groups_below_other_blocks_in_4_10() {
+    let mut image = Image::new();
+    let groups = masks_around(&mut image, 4);
+    let by_key = image.block(7, &[groups], &[8.0]);
+    let by_no_key = image.block(7, &[0, groups], &[5.0]);
+    let by_range = image.block(8, &[groups], &[8.0, 9.0]);
+    let by_default = image.block(8, &[0, 0, groups], &[5.0, 6.0]);
+    let malformed = image.block(8, &[groups], &[5.0]);
+    let twice = image.block(8, &[by_key], &[8.0, 9.0]);
+    for (above, seen) in [(by_key, 2), (by_no_key, 2), (by_range, 2), (by_default, 2), (malformed, 2), (twice, 3)] {
+        let odd = above == malformed;
+        for value in [Unsigned(8), Signed(8), Float(8.0)] {
+            stays_in_4_10(&image, above, value, visits(3 + seen, seen), odd);
+        }
+        for value in [Text(b"8"), Other] {
+            stays_in_4_10(&image, above, value, visits(3 + seen, 1), false);
+        }
+        for value in [Unsigned(8), Signed(8)] {
+            text_and_table(&image, above, value, b"below|below|none", visits(3 + seen, 3 + seen), odd);
+        }
+    }
+}
+
+#[test]
+fn nothing_below_bit_groups_is_reached_in_4_10() {
+    let mut image = Image::new();
+    let text = image.text(b"text");
+    let odd_table = image.block(8, &[text], &[0.0]);
+    let formula = image.block(3, &[], &[]);
+    let shown = image.named(11, 0, &[text, odd_table], &[1, 1]);
+    let stopped_at = image.named(11, 0, &[odd_table, formula], &[1, 1]);
+    let consulted = |checked, applied| Stopped { visits: visits(checked, applied), malformed: true };
+    assert_eq!(apply_within(&image, shown, LIMIT, Unsigned(1), 8).0, Err(Refusal::Room(Some(consulted(2, 2)))));
+    assert_eq!(apply_within(&image, stopped_at, LIMIT, Unsigned(1), 0).0, Err(Refusal::Formula(consulted(3, 3))));
+    stays_in_4_10(&image, shown, Unsigned(1), visits(2, 1), false);
+    stays_in_4_10(&image, stopped_at, Unsigned(1), visits(3, 1), false);
+}
+
+#[test]
+fn the_check_below_bit_groups_is_alike_in_4_10() {
+    let mut image = Image::new();
+    let (chain, last) = image.row(21, 1);
+    let deep = image.named(11, 0, &[chain], &[1]);
+    is_unsound(&image, deep, LIMIT, Refusal::Deep(last));
+    is_unsound(&image, deep, 1, Refusal::Limit(chain));
+    is_unsound(&image, deep, 0, Refusal::Limit(deep));
+    let own = image.bytes.len() as u64;
+    image.named(11, 0, &[own], &[1]);
+    is_unsound(&image, own, LIMIT, Refusal::Loop(own));
+    let cut_off = image.named(11, 0, &[0], &[1]);
+    let last = image.block(1, &[], &[0.0, 1.0]);
+    image.set_link(cut_off, 4, last); // the first reference
+    image.bytes.pop();
+    is_unsound(&image, cut_off, LIMIT, Refusal::Short(last));
 }
 
 #[test]
@@ -464,8 +548,9 @@ fn refusals_have_number_name_address_and_visits() {
         (Refusal::Room(Some(odd)), "refused 8 Room", Some(odd)),
         (Refusal::Count, "refused 9 Count", None),
         (Refusal::Width, "refused 11 Width", None),
+        (Refusal::Edition, "refused 16 Edition", None),
     ];
-    for (number, (refusal, shown, stopped)) in (1..=9).chain([11]).zip(all) {
+    for (number, (refusal, shown, stopped)) in (1..=9).chain([11, 16]).zip(all) {
         assert_eq!((refusal.number(), refusal.to_string().as_str(), refusal.visits()), (number, shown, stopped.map(|s| s.visits)));
         assert_eq!(refusal.malformed(), stopped.is_some_and(|s| s.malformed));
         assert_eq!(refusal.address().is_some(), number <= 6);

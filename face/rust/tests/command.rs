@@ -155,7 +155,8 @@ fn help() {
     let ended = run(&["--help"]);
     assert_eq!((ended.status, ended.error.as_str()), (0, ""));
     for word in [
-        "IMAGE-FILE ADDRESS KIND VALUE [--limit N] [--width N]",
+        "IMAGE-FILE ADDRESS KIND VALUE [--limit N] [--width N] [--edition E]",
+        "\n  --edition E  the file's edition of MDF, 4.10 or 4.20, 4.20 if not given; also --edition=E",
         "11 Width",
         "KIND -",
         "unsigned, signed, float or text",
@@ -216,6 +217,56 @@ fn a_width_that_is_none() {
     complains(&on_sample("528 signed -3 --width=4x"), "--width \"4x\" is no whole number from 0 to 4294967295");
     complains(&on_sample("528 signed -3 --width 4294967296"), "--width \"4294967296\" is no whole number from 0 to 4294967295");
     complains(&on_sample("4288 --width 4"), "--width goes with a KIND and a VALUE");
+}
+
+#[test]
+fn a_file_of_an_edition() {
+    for edition in ["--edition 4.10", "--edition=4.10", "--edition 4.20 --edition=4.10"] {
+        for value in ["signed -1", "unsigned 0xff", "float 1", "text on", "signed -1 --width 4", "signed -1 --width=64"] {
+            prints(&format!("4288 {value} {edition}"), 0, "unchanged\nchecked 4 applied 1\n");
+            prints(&format!("{edition} 4288 {value}"), 0, "unchanged\nchecked 4 applied 1\n");
+        }
+        prints(&format!("528 signed -3 {edition}"), 0, "number -0.375 Nm\nchecked 1 applied 1\n");
+        prints(&format!("4288 signed -1 --limit 3 {edition}"), 3, "refused 3 Limit at 4208\nchecked 0 applied 0\n");
+    }
+    for edition in ["--edition 4.20", "--edition=4.20", "--edition 4.10 --edition=4.20"] {
+        for value in ["4288 signed -1", "4288 signed -1 --width 4", "2488 unsigned 6", "528 signed -3"] {
+            let without = run(&on_sample(value));
+            prints(&format!("{value} {edition}"), without.status, &without.out);
+        }
+    }
+}
+
+#[test]
+fn many_values_in_an_edition() {
+    for (words, printed) in [
+        ("4288 signed - --edition 4.10", ["unchanged"; 3]),
+        ("--edition=4.10 4288 signed - --width 4", ["unchanged"; 3]),
+        ("4288 signed - --width 4 --edition 4.20", ["text Hitch = floating|Valve = open", "text Hitch = floating", "text "]),
+        ("1744 signed - --edition 4.10", ["number -40.5 °C", "number -42.5 °C", "number -40 °C"]),
+    ] {
+        let ended = run_with(&on_sample(words), b"-1\n-5\n0\n");
+        assert_eq!((ended.status, ended.out.lines().collect::<Vec<_>>()), (0, printed.to_vec()), "{words}");
+    }
+}
+
+#[test]
+fn an_edition_that_is_none() {
+    for word in ["4.1", "4.2", "4.00", "4.11", "4.30", "410", "420", "4.100", "04.10", "4,10", "-4.10", "4.10 ", " 4.20", "MDF 4.10", ""] {
+        let line = format!("--edition \"{word}\" is neither 4.10 nor 4.20");
+        complains(&[SAMPLE, "4288", "signed", "-1", "--edition", word], &line);
+        complains(&[SAMPLE, "4288", "signed", "-1", &format!("--edition={word}")], &line);
+        complains(&[SAMPLE, "4288", "signed", "-1", "--edition", word, "--edition", "4.10", "--width", "65"], &line);
+    }
+    complains(&on_sample("528 signed -3 --edition"), "--edition needs 4.10 or 4.20");
+    complains(&on_sample("528 signed -3 --edition --width 4"), "--edition \"--width\" is neither 4.10 nor 4.20");
+    complains(&on_sample("528 signed -3 --editions=4.10"), "\"--editions=4.10\" is no option");
+    complains(&on_sample("4288 --edition 4.10"), "--edition goes with a KIND and a VALUE");
+    complains(&on_sample("4288 --edition 4.10 --width 4"), "--width goes with a KIND and a VALUE");
+    for edition in ["4.10", "4.20"] {
+        prints(&format!("4288 signed -1 --width 65 --edition {edition}"), 3, "refused 11 Width\nchecked 0 applied 0\n");
+        prints(&format!("64 signed -1 --limit 0 --edition {edition} --width 0"), 3, "refused 11 Width\nchecked 0 applied 0\n");
+    }
 }
 
 #[test]
@@ -337,7 +388,7 @@ fn links_that_lead_to_no_text() {
 
 #[test]
 fn a_value_may_look_like_an_option() {
-    for text in ["--help", "-h", "--limit", "--limit=x", "--version", "--", "-", "-x"] {
+    for text in ["--help", "-h", "--limit", "--limit=x", "--edition", "--edition=x", "--version", "--", "-", "-x"] {
         let ended = run(&[SAMPLE, "2384", "text", "--", text]);
         assert_eq!((ended.status, ended.out.as_str()), (0, "text fault not known\nchecked 1 applied 1\n"), "{text}");
     }

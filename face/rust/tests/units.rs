@@ -84,6 +84,25 @@ fn of_the_default_conversion() {
 }
 
 #[test]
+fn beside_bit_groups_in_either_edition() {
+    let mut image = Image::new();
+    let [a, b, other, text] = ["a", "b", "other", "bits"].map(|text| image.text(text.as_bytes()));
+    let groups = image.named(11, 0, &[text], &[1]);
+    image.set_link(groups, UNIT, other);
+    let nested = [constant(&mut image, 5.0, a), groups, constant(&mut image, 5.0, b)];
+    for (kind, values) in [(7, [1.0, 2.0].as_slice()), (8, &[1.0, 1.0, 2.0, 2.0])] {
+        let inner = image.block(kind, &nested, values);
+        let root = image.block(7, &[inner], &[]);
+        let file = Temporary::new("beside", &image);
+        for (edition, between) in [("4.10", "unchanged"), ("4.20", "text bits")] {
+            let ended = run_with(&[file.path(), &root.to_string(), "signed", "-", "--edition", edition], b"1\n2\n3\n2\n1\n");
+            let printed = format!("number 5 a\n{between}\nnumber 5 b\n{between}\nnumber 5 a\n");
+            assert_eq!((ended.status, ended.out), (0, printed), "{edition}");
+        }
+    }
+}
+
+#[test]
 fn in_metadata_or_not_to_be_read() {
     let mut image = Image::new();
     let xml = image.metadata(b"<CCunit><TX>\xc2\xb0C</TX></CCunit>");
@@ -109,7 +128,8 @@ impl Draw {
 
 const LEAVES: usize = 6;
 
-/// Conversions below one another: leaves that each give a number of their own, and value to text and range to text blocks above them. The last one.
+/// Conversions below one another: leaves that each give a number of their own, bit groups, and value to text and range to text blocks above them. The
+/// last one.
 fn drawn(image: &mut Image, draw: &mut Draw) -> u64 {
     let (text, metadata) = (image.text(b"text"), image.metadata(b"<TX/>"));
     let mut nested: Vec<u64> = Vec::new();
@@ -117,6 +137,7 @@ fn drawn(image: &mut Image, draw: &mut Draw) -> u64 {
         let unit = image.text(format!("u{number}").as_bytes());
         nested.push(constant(image, number as f64, unit));
     }
+    nested.push(image.named(11, 0, &nested, &[u64::MAX; LEAVES]));
     let mut root = 0;
     for _ in 0..5 {
         let mut refs: Vec<u64> = Vec::new();
@@ -139,16 +160,26 @@ fn drawn(image: &mut Image, draw: &mut Draw) -> u64 {
 
 #[test]
 fn of_every_number_in_drawn_trees() {
-    let (mut draw, mut numbers) = (Draw(12), 0);
+    let (mut draw, mut numbers, mut groups) = (Draw(12), 0, 0);
     let values: String = (-1..9).map(|value| format!("{value}\n")).collect();
     for _ in 0..100 {
         let mut image = Image::new();
         let root = drawn(&mut image, &mut draw);
         let file = Temporary::new("drawn", &image);
         for kind in ["signed", "float"] {
-            let ended = run_with(&[file.path(), &root.to_string(), kind, "-"], values.as_bytes());
+            let in_edition = |edition| run_with(&[file.path(), &root.to_string(), kind, "-", "--edition", edition], values.as_bytes());
+            let (older, ended) = (in_edition("4.10"), in_edition("4.20"));
             assert_eq!((ended.status, ended.out.lines().count()), (0, 10));
-            for line in ended.out.lines().filter(|line| line.starts_with("number ")) {
+            assert_eq!((older.status, older.out.lines().count()), (0, 10));
+            for (older, line) in older.out.lines().zip(ended.out.lines()) {
+                // Only a text of bit groups is not given in 4.10: every number is given in both editions.
+                if older != line {
+                    assert!(older.starts_with("unchanged") && line.starts_with("text "), "{older}, {line}");
+                    groups += 1;
+                }
+                if !line.starts_with("number ") {
+                    continue;
+                }
                 // A table of an odd length says so behind a tab.
                 let answer = line.strip_suffix("\todd range table").unwrap_or(line);
                 let number = answer.split(' ').nth(1).unwrap();
@@ -157,5 +188,5 @@ fn of_every_number_in_drawn_trees() {
             }
         }
     }
-    assert!(numbers > 400, "{numbers}");
+    assert!(numbers > 400 && groups > 20, "{numbers}, {groups}");
 }

@@ -1,15 +1,22 @@
 -- `modes::apply_at` meets its contract. Assumes nothing.
 use mathlib.Core.Path.{sym, ap, _∙_}
 use denote.Ref.{now}
-use Rattle.conversion.specs.Entry.{call}
+use Rattle.conversion.specs.Entry.{call, applying}
 use Rattle.conversion.specs.declared.logic.Applied.{Applied}
-use Rattle.modes.proofs.Laws.{width-taken, width-refused}
+use Rattle.steps.specs.declared.mode.Mode.{Mode}
+use Rattle.modes.proofs.Laws.{mode-taken, width-refused, edition-refused}
 use borrow.Author.Needs.{needs}
 use Rattle.modes.proofs.apply_at.Statement.{statement}
 use Rattle.modes.proofs.apply_at.Tie as tie
 
+is-edition-requires : tie.Need-is-edition-requires
+is-edition-requires c κs = search needs
+
 is-width-requires : tie.Need-is-width-requires
 is-width-requires c κs = search needs
+
+mode-of-requires : tie.Need-mode-of-requires
+mode-of-requires c κs = search needs
 
 apply-in-requires : tie.Need-apply-in-requires
 apply-in-requires c κs = search needs
@@ -17,24 +24,47 @@ apply-in-requires c κs = search needs
 refused-requires : tie.Need-refused-requires
 refused-requires c κs = search needs
 
+refused-requires-2 : tie.Need-refused-requires-2
+refused-requires-2 c κs = search needs
+
 same-length : tie.Need-same-length
 same-length c = search needs
 
 returns : tie.Need-returns
 returns c =
-    let s = c .before .before .before .before .before .before .before .before .before .args in
-    let is = sym (c .before .before .before .before .before .is-width .ensures) ∙ c .before .before .before .before .if1 .taken in
+    let s = c .before .before .before .before .before .before .before .before .before .before .before .before .args in
+    let named = sym (c .before .before .before .before .before .before .before .before .is-edition .ensures) ∙ c .before .before .before .before .before .before .before .if1 .taken in
+    let fits = sym (c .before .before .before .before .before .before .is-width .ensures) ∙ c .before .before .before .before .before .if2 .taken in
     c .before .before .apply-in .ensures
-    ∙ sym (width-taken (now (s .image)) (s .address) (s .limit) (now (s .text)) (now (s .out)) (s .width) (s .value) is)
+    ∙ ap (λ (m : Mode). applying m (now (s .image)) (s .address) (s .limit) (s .value) (now (s .text)) (now (s .out))) (c .before .before .before .before .mode-of .ensures)
+    ∙ sym (mode-taken (now (s .image)) (s .address) (s .limit) (now (s .text)) (now (s .out)) (s .edition) (s .width) (s .value) named fits)
 
 returns-2 : tie.Need-returns-2
 returns-2 c =
-    let s = c .before .before .before .before .before .before .args in
-    let is = sym (c .before .before .is-width .ensures) ∙ c .before .if1 .left in
+    let s = c .before .before .before .before .before .before .before .before .args in
+    let named = sym (c .before .before .before .before .is-edition .ensures) ∙ c .before .before .before .if1 .taken in
+    let fits = sym (c .before .before .is-width .ensures) ∙ c .before .if2 .left in
     ap (λ (r : Applied). call r (now (s .out))) (c .refused .ensures)
-    ∙ sym (width-refused (now (s .image)) (s .address) (s .limit) (now (s .text)) (now (s .out)) (s .width) (s .value) is)
+    ∙ sym (width-refused (now (s .image)) (s .address) (s .limit) (now (s .text)) (now (s .out)) (s .edition) (s .width) (s .value) named fits)
+
+returns-3 : tie.Need-returns-3
+returns-3 c =
+    let s = c .before .before .before .before .before .before .args in
+    let named = sym (c .before .before .is-edition .ensures) ∙ c .before .if1 .left in
+    ap (λ (r : Applied). call r (now (s .out))) (c .refused2 .ensures)
+    ∙ sym (edition-refused (now (s .image)) (s .address) (s .limit) (now (s .text)) (now (s .out)) (s .edition) (s .width) (s .value) named)
 
 pub apply-at-spec : {M : Type 1} → statement M
 apply-at-spec =
     tie.close
-    (tie.spec is-width-requires apply-in-requires refused-requires same-length returns returns-2)
+    (tie.spec
+    is-edition-requires
+    is-width-requires
+    mode-of-requires
+    apply-in-requires
+    refused-requires
+    refused-requires-2
+    same-length
+    returns
+    returns-2
+    returns-3)

@@ -5,7 +5,7 @@ use Rattle.show_values.proofs.list.Statement.{statement}
 use Rattle.show_values.proofs.list.Tie as tie
 
 abbrev Inv-loop : tie.InvT-loop
-Inv-loop input count image i₀ i = count ≤ 1023
+Inv-loop input count image i₀ i = count ≤ 910
 
 abbrev μ-loop : tie.MeasureT-loop
 μ-loop input count image i₀ i = count - i

@@ -1,4 +1,5 @@
-/* Prints size, alignment and the place of each field of the structs of mdf_conversion.h, one struct to a line. */
+/* Prints size, alignment and the place of each field of the structs of mdf_conversion.h, one struct to a line; then the numbers of refusals and
+ * editions, one to a line. */
 #include "mdf_conversion.h"
 
 #include <stdio.h>
@@ -6,6 +7,7 @@
 #define BEGIN(type) printf("%s %zu %zu:", #type, sizeof(type), _Alignof(type))
 #define FIELD(type, field) printf(" %s %zu", #field, offsetof(type, field))
 #define END() printf("\n")
+#define NUMBER(name) printf("%s %d\n", #name, (int)name)
 
 int main(void) {
     BEGIN(mdf_checked);
@@ -25,6 +27,7 @@ int main(void) {
     END();
     BEGIN(mdf_mode);
     FIELD(mdf_mode, width);
+    FIELD(mdf_mode, edition);
     END();
     BEGIN(mdf_shown);
     FIELD(mdf_shown, from_image);
@@ -64,5 +67,18 @@ int main(void) {
     FIELD(mdf_written, refusal);
     FIELD(mdf_written, length);
     END();
+    NUMBER(MDF_REFUSED_OUTSIDE);
+    NUMBER(MDF_REFUSED_NOT_CONVERSION);
+    NUMBER(MDF_REFUSED_LIMIT);
+    NUMBER(MDF_REFUSED_SHORT);
+    NUMBER(MDF_REFUSED_DEEP);
+    NUMBER(MDF_REFUSED_LOOP);
+    NUMBER(MDF_REFUSED_FORMULA);
+    NUMBER(MDF_REFUSED_ROOM);
+    NUMBER(MDF_REFUSED_COUNT);
+    NUMBER(MDF_REFUSED_WIDTH);
+    NUMBER(MDF_REFUSED_EDITION);
+    NUMBER(MDF_EDITION_410);
+    NUMBER(MDF_EDITION_420);
     return 0;
 }

@@ -1,10 +1,13 @@
-//! The structs have the layout that a C compiler gives those of the header.
+//! The structs have the layout that a C compiler gives those of the header, the numbers are the header's, and the archive refuses what no safe
+//! function can ask for.
 use super::{Applied, Block, Checked, Mode, Parsed, Shown, Word, Written};
+use crate::{Edition, Refusal, Stopped};
 use core::mem::{align_of, offset_of, size_of};
 use std::format;
 use std::path::PathBuf;
 use std::process::Command;
 use std::string::String;
+use std::vec::Vec;
 
 // A struct's line as layout.c prints it.
 macro_rules! line {
@@ -15,10 +18,10 @@ macro_rules! line {
     };
 }
 
-fn lines_of_rust() -> String {
+fn structs_of_rust() -> String {
     line!("mdf_checked", Checked, refusal, visits, address)
         + &line!("mdf_applied", Applied, refusal, kind, number, length, address, checked, applied, malformed)
-        + &line!("mdf_mode", Mode, width)
+        + &line!("mdf_mode", Mode, width, edition)
         + &line!("mdf_shown", Shown, from_image, start, length)
         + &line!(
             "mdf_block",
@@ -45,6 +48,25 @@ fn lines_of_rust() -> String {
         + &line!("mdf_written", Written, refusal, length)
 }
 
+fn numbers_of_rust() -> String {
+    let numbers = [
+        ("MDF_REFUSED_OUTSIDE", Refusal::Outside(0).number()),
+        ("MDF_REFUSED_NOT_CONVERSION", Refusal::NotConversion(0).number()),
+        ("MDF_REFUSED_LIMIT", Refusal::Limit(0).number()),
+        ("MDF_REFUSED_SHORT", Refusal::Short(0).number()),
+        ("MDF_REFUSED_DEEP", Refusal::Deep(0).number()),
+        ("MDF_REFUSED_LOOP", Refusal::Loop(0).number()),
+        ("MDF_REFUSED_FORMULA", Refusal::Formula(Stopped::default()).number()),
+        ("MDF_REFUSED_ROOM", Refusal::Room(None).number()),
+        ("MDF_REFUSED_COUNT", Refusal::Count.number()),
+        ("MDF_REFUSED_WIDTH", Refusal::Width.number()),
+        ("MDF_REFUSED_EDITION", Refusal::Edition.number()),
+        ("MDF_EDITION_410", Edition::Mdf410.number()),
+        ("MDF_EDITION_420", Edition::Mdf420.number()),
+    ];
+    numbers.iter().map(|(name, number)| format!("{name} {number}\n")).collect()
+}
+
 fn lines_of_c() -> String {
     let package = PathBuf::from(env!("CARGO_MANIFEST_DIR"));
     let program = std::env::temp_dir().join(format!("mdf-conversion-layout-{}", std::process::id()));
@@ -63,6 +85,68 @@ fn lines_of_c() -> String {
 }
 
 #[test]
-fn layouts_are_those_of_the_header() {
-    assert_eq!(lines_of_rust(), lines_of_c());
+fn layouts_and_numbers_are_those_of_the_header() {
+    assert_eq!(structs_of_rust() + &numbers_of_rust(), lines_of_c());
+    assert_eq!((size_of::<Mode>(), offset_of!(Mode, width), offset_of!(Mode, edition)), (8, 0, 4));
+}
+
+const FILL: u8 = 0xa5;
+
+// What the archive answers in this mode for a value of each kind. It may not touch its output.
+fn applied_in(image: &[u8], address: u64, limit: u32, mode: Mode) -> Vec<Applied> {
+    let (from, len, text) = (image.as_ptr(), image.len(), b"on");
+    let mut buffer = [FILL; 64];
+    let (to, room) = (buffer[16..48].as_mut_ptr(), 32);
+    // SAFETY: each pointer and length are those of one slice, and the part of the buffer shares no byte with the others.
+    let all = unsafe {
+        [
+            super::mdf_apply_mode_unsigned(from, len, address, limit, mode, 15, to, room),
+            super::mdf_apply_mode_signed(from, len, address, limit, mode, -1, to, room),
+            super::mdf_apply_mode_float(from, len, address, limit, mode, 0.5, to, room),
+            super::mdf_apply_mode_text(from, len, address, limit, mode, text.as_ptr(), text.len(), to, room),
+            super::mdf_apply_mode_other(from, len, address, limit, mode, to, room),
+        ]
+    };
+    assert_eq!(buffer, [FILL; 64]);
+    all.into()
+}
+
+// Whatever stands at the address, every kind of value is refused with this number, and all else is 0.
+fn is_refused(image: &[u8], width: u32, edition: u32, refusal: Refusal) {
+    // Bit groups, a linear conversion, a formula, a text, a block that is cut off, a loop, and no place of the image.
+    for address in [4288, 528, 816, 64, 2856, 3424, u64::MAX] {
+        for applied in [0, 4096].into_iter().flat_map(|limit| applied_in(image, address, limit, Mode { width, edition })) {
+            let Applied { refusal: number, kind, number: x, length, address, checked, applied, malformed } = applied;
+            assert_eq!((number, kind, x.to_bits(), length), (refusal.number(), 0, 0, 0), "width {width} edition {edition}");
+            assert_eq!((address, checked, applied, malformed), (0, 0, 0, 0), "width {width} edition {edition}");
+            assert_eq!(Refusal::at(number, address), refusal);
+        }
+    }
+}
+
+const NO_WIDTHS: [u32; 3] = [0, 65, u32::MAX];
+
+#[test]
+fn an_edition_that_is_none_is_refused_before_the_width_and_the_check() {
+    let image = std::fs::read("../../samples/tractor.mdf").unwrap();
+    for edition in [0, 400, 409, 411, 419, 421, u32::MAX] {
+        for width in [1, 4, 64].into_iter().chain(NO_WIDTHS) {
+            is_refused(&image, width, edition, Refusal::Edition);
+            is_refused(&[], width, edition, Refusal::Edition);
+        }
+    }
+}
+
+#[test]
+fn a_width_that_is_none_is_refused_in_both_editions() {
+    let image = std::fs::read("../../samples/tractor.mdf").unwrap();
+    for edition in [410, 420] {
+        for width in NO_WIDTHS {
+            is_refused(&image, width, edition, Refusal::Width);
+            is_refused(&[], width, edition, Refusal::Width);
+        }
+        for applied in applied_in(&image, u64::MAX, 4096, Mode { width: 64, edition }) {
+            assert_eq!((applied.refusal, applied.address), (1, u64::MAX));
+        }
+    }
 }

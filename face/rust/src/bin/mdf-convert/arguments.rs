@@ -1,6 +1,6 @@
 //! What the command is asked for.
 use crate::printing::brief;
-use mdf_conversion::{Mode, Value};
+use mdf_conversion::{Edition, Mode, Value};
 use std::ffi::{OsStr, OsString};
 
 const USUAL_LIMIT: u32 = 4096;
@@ -50,10 +50,11 @@ pub fn read(words: &[OsString]) -> Result<Arguments<'_>, String> {
     if let Some(word) = places.next() {
         return Err(format!("{} is one argument too many", shown(word)));
     }
-    if matches!(task, Task::Describe) && sorted.width.is_some() {
-        return Err("--width goes with a KIND and a VALUE".into());
+    let of_the_mode = sorted.width.map(|_| "--width").or(sorted.edition.map(|_| "--edition"));
+    if let (Task::Describe, Some(option)) = (&task, of_the_mode) {
+        return Err(format!("{option} goes with a KIND and a VALUE"));
     }
-    let mode = sorted.width.map_or(Mode::STANDARD, Mode::width);
+    let mode = sorted.width.map_or(Mode::STANDARD, Mode::width).edition(sorted.edition.unwrap_or_default());
     Ok(Arguments::Request(Request { image_file, address, limit: sorted.limit, mode, task }))
 }
 
@@ -71,12 +72,13 @@ struct Places<'a> {
     places: Vec<&'a OsStr>,
     limit: u32,
     width: Option<u32>,
+    edition: Option<Edition>,
     /// How many of the places stand before `--`.
     before_dashes: Option<usize>,
 }
 
 fn sorted(words: &[OsString]) -> Result<Sorted<'_>, String> {
-    let mut sorted = Places { places: Vec::new(), limit: USUAL_LIMIT, width: None, before_dashes: None };
+    let mut sorted = Places { places: Vec::new(), limit: USUAL_LIMIT, width: None, edition: None, before_dashes: None };
     let mut words = words.iter().map(OsString::as_os_str);
     while let Some(word) = words.next() {
         match option_of(word.as_encoded_bytes()) {
@@ -84,6 +86,7 @@ fn sorted(words: &[OsString]) -> Result<Sorted<'_>, String> {
             (b"--version", None) => return Ok(Sorted::Version),
             (b"--limit", given) => sorted.limit = number_of("--limit", given, &mut words)?,
             (b"--width", given) => sorted.width = Some(number_of("--width", given, &mut words)?),
+            (b"--edition", given) => sorted.edition = Some(edition_of(given, &mut words)?),
             (b"--", None) => {
                 sorted.before_dashes = Some(sorted.places.len());
                 sorted.places.extend(words.by_ref());
@@ -141,6 +144,16 @@ fn number_of<'a>(option: &str, given: Option<&'a [u8]>, words: &mut impl Iterato
     let bytes = given.or_else(|| words.next().map(OsStr::as_encoded_bytes)).ok_or(format!("{option} needs a number"))?;
     let number = digits(bytes, 10).ok().and_then(|number| u32::try_from(number).ok());
     number.ok_or(format!("{option} {} is no whole number from 0 to {}", brief(bytes), u32::MAX))
+}
+
+// The edition of an option, likewise.
+fn edition_of<'a>(given: Option<&'a [u8]>, words: &mut impl Iterator<Item = &'a OsStr>) -> Result<Edition, String> {
+    match given.or_else(|| words.next().map(OsStr::as_encoded_bytes)) {
+        Some(b"4.10") => Ok(Edition::Mdf410),
+        Some(b"4.20") => Ok(Edition::Mdf420),
+        Some(bytes) => Err(format!("--edition {} is neither 4.10 nor 4.20", brief(bytes))),
+        None => Err("--edition needs 4.10 or 4.20".into()),
+    }
 }
 
 enum NoNumber {

@@ -23,7 +23,7 @@ pub struct Converter<'a> {
 
 impl<'a> Converter<'a> {
     pub fn new(image: &'a [u8], address: u64, limit: u32, mode: Mode) -> Converter<'a> {
-        Converter { image, address, limit, mode, out: vec![0; FIRST_ROOM], units: Units::new(image) }
+        Converter { image, address, limit, mode, out: vec![0; FIRST_ROOM], units: Units::new(image, mode) }
     }
 
     fn convert(&mut self, value: Value<'_>) -> Outcome {

@@ -18,21 +18,23 @@ use std::process::ExitCode;
 const HELP: &str = "\
 mdf-convert: converts values by a conversion (##CC block) of an MDF 4 file
 
-  mdf-convert IMAGE-FILE ADDRESS KIND VALUE [--limit N] [--width N]   converts one value
-  mdf-convert IMAGE-FILE ADDRESS KIND - [--limit N] [--width N]       converts each line of standard input
-  mdf-convert IMAGE-FILE ADDRESS [--limit N]                          checks the conversion and shows its fields
-  mdf-convert --help                                                  shows this text; so does -h
-  mdf-convert --version                                               shows the version
+  mdf-convert IMAGE-FILE ADDRESS KIND VALUE [--limit N] [--width N] [--edition E]   converts one value
+  mdf-convert IMAGE-FILE ADDRESS KIND - [--limit N] [--width N] [--edition E]       converts each line of standard input
+  mdf-convert IMAGE-FILE ADDRESS [--limit N]                                        checks the conversion and shows its fields
+  mdf-convert --help                                                                shows this text; so does -h
+  mdf-convert --version                                                             shows the version
 
-  IMAGE-FILE  the file, a regular one: it is read once, as a whole
-  ADDRESS     where the conversion stands in the file: decimal, or hexadecimal after 0x
-  KIND        unsigned, signed, float or text
-  VALUE       a value of that kind: a whole number, decimal or hexadecimal after 0x, a signed one with - or + before it or no sign;
-              a float such as 2.5, -1e3, inf or nan; or a text
-  --limit N   the most conversions that the check may visit, 4096 if not given; also --limit=N
-  --width N   how many bits the signal has, 1 to 64, 64 if not given; also --width=N: bit groups (type 11) see so many low bits of a whole
-              number, so that -1 of a signal of 4 bits has no bit 4
-  --          no option follows; a VALUE right behind it is taken as it stands, be it -h, --limit or -
+  IMAGE-FILE   the file, a regular one: it is read once, as a whole
+  ADDRESS      where the conversion stands in the file: decimal, or hexadecimal after 0x
+  KIND         unsigned, signed, float or text
+  VALUE        a value of that kind: a whole number, decimal or hexadecimal after 0x, a signed one with - or + before it or no sign;
+               a float such as 2.5, -1e3, inf or nan; or a text
+  --limit N    the most conversions that the check may visit, 4096 if not given; also --limit=N
+  --width N    how many bits the signal has, 1 to 64, 64 if not given; also --width=N: bit groups (type 11) see so many low bits of a whole
+               number, so that -1 of a signal of 4 bits has no bit 4
+  --edition E  the file's edition of MDF, 4.10 or 4.20, 4.20 if not given; also --edition=E: in 4.10 there are no bit groups, so that type 11
+               leaves a value unchanged and passes nothing on
+  --           no option follows; a VALUE right behind it is taken as it stands, be it -h, --limit or -
 
 A line of standard input ends with a newline, or with a carriage return and a newline: neither is part of the value.
 

@@ -1,25 +1,26 @@
 //! The unit of a number: that of the block that gave it.
 //!
 //! A number is given by the block at the address, or by a nested one to which value to text and range to text (types 7 and 8) pass the value on. Of
-//! the blocks that are applied for a number each but the last passes the value on, once, since bit groups give no number. So the giver is M - 1
-//! steps away, M being the blocks applied.
+//! the blocks that are applied for a number each but the last passes the value on, once, since bit groups give no number, nor does type 11 where it
+//! is unknown. So the giver is M - 1 steps away, M being the blocks applied.
 //!
-//! Which reference a step takes is not guessed from the number, nor chosen here by the rules: the archive is asked once more, with a copy of the
-//! block whose nested conversions answer their own places.
+//! Which reference a step takes is not guessed from the number, nor chosen here by the rules: the archive is asked once more, in the same mode,
+//! with a copy of the block whose nested conversions answer their own places.
 use crate::printing::{line, quoted};
 use crate::texts::{lead, Lead};
-use mdf_conversion::{apply, Answer, ConversionBlock, ConversionType, Refusal, Value};
+use mdf_conversion::{apply_in, Answer, ConversionBlock, ConversionType, Mode, Refusal, Value};
 
-/// Finds the units of the numbers that the conversions of one image give.
+/// Finds the units of the numbers that the conversions of one image give in one mode.
 pub struct Units<'a> {
     image: &'a [u8],
+    mode: Mode,
     // Those of the last number's way. The next number often goes the same way.
     way: Vec<Signpost>,
 }
 
 impl<'a> Units<'a> {
-    pub fn new(image: &'a [u8]) -> Units<'a> {
-        Units { image, way: Vec::new() }
+    pub fn new(image: &'a [u8], mode: Mode) -> Units<'a> {
+        Units { image, mode, way: Vec::new() }
     }
 
     /// What is printed behind the number that the conversion at this address gave for the value with so many blocks applied: a blank and the unit,
@@ -40,7 +41,7 @@ impl<'a> Units<'a> {
             self.way.truncate(step);
             self.way.push(Signpost::new(self.image, block).ok()?);
         }
-        self.way.get(step)?.taken(value)
+        self.way.get(step)?.taken(self.mode, value)
     }
 }
 
@@ -72,8 +73,8 @@ impl Signpost {
     }
 
     // The reference that the block takes for a value for which it gives a number.
-    fn taken(&self, value: Value<'_>) -> Option<u64> {
-        match apply(&self.image, 0, u32::MAX, value, &mut []).ok()?.answer {
+    fn taken(&self, mode: Mode, value: Value<'_>) -> Option<u64> {
+        match apply_in(&self.image, 0, u32::MAX, mode, value, &mut []).ok()?.answer {
             Answer::Number(place) => self.references.get(place as usize).copied(),
             _ => None,
         }
