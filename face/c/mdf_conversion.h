@@ -54,7 +54,7 @@
  * 4096 is generous, while 4294967295 lets an image of some kilobytes begin that many visits. Choose `out` as long as the longest text that can be shown: a
  * longer one is refused with 8 at no more cost.
  *
- * Stack: at most 9,096 bytes below the caller, at 21 levels of nested blocks, the most that the check accepts.
+ * Stack: at most 8,936 bytes below the caller, at 21 levels of nested blocks, the most that the check accepts.
  */
 #ifndef MDF_CONVERSION_H
 #define MDF_CONVERSION_H

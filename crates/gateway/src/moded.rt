@@ -10,31 +10,6 @@ ghost use Rattle.rules.specs.declared.number.Value.the-variants.{Unsigned, Sign
 ghost use Rattle.modes.specs.Asked.{applyingAt};
 ghost use Rattle.faces.specs.Applied.{face, callFace};
 
-// A value of any kind, with the text beside it.
-fn apply_moded(
-    image: &[u8],
-    address: u64,
-    limit: u32,
-    mode: MdfMode,
-    value: Value,
-    text: &[u8],
-    out: &mut [u8],
-) -> MdfApplied
-    ensures { λ r. ⌜ face r (now (out .exit))
-        ≡ callFace (applyingAt (mode .edition) (mode .width) (now (image .entry)) address limit value (now (text .entry)) (now (out .entry))) ⌝ }
-{
-    applied_face(apply_at(
-        mode.edition,
-        mode.width,
-        image,
-        address,
-        limit,
-        value,
-        text,
-        out,
-    ))
-}
-
 #[no_mangle]
 pub extern "C" fn mdf_apply_mode_unsigned(
     image: &[u8],
@@ -47,15 +22,16 @@ pub extern "C" fn mdf_apply_mode_unsigned(
     ensures { λ r. ⌜ face r (now (out .exit))
         ≡ callFace (applyingAt (mode .edition) (mode .width) (now (image .entry)) address limit (Unsigned value) [] (now (out .entry))) ⌝ }
 {
-    apply_moded(
+    applied_face(apply_at(
+        mode.edition,
+        mode.width,
         image,
         address,
         limit,
-        mode,
         Value::Unsigned(value),
         b"",
         out,
-    )
+    ))
 }
 
 #[no_mangle]
@@ -70,7 +46,16 @@ pub extern "C" fn mdf_apply_mode_signed(
     ensures { λ r. ⌜ face r (now (out .exit))
         ≡ callFace (applyingAt (mode .edition) (mode .width) (now (image .entry)) address limit (Signed value) [] (now (out .entry))) ⌝ }
 {
-    apply_moded(image, address, limit, mode, Value::Signed(value), b"", out)
+    applied_face(apply_at(
+        mode.edition,
+        mode.width,
+        image,
+        address,
+        limit,
+        Value::Signed(value),
+        b"",
+        out,
+    ))
 }
 
 #[no_mangle]
@@ -85,7 +70,16 @@ pub extern "C" fn mdf_apply_mode_float(
     ensures { λ r. ⌜ face r (now (out .exit))
         ≡ callFace (applyingAt (mode .edition) (mode .width) (now (image .entry)) address limit (Float value) [] (now (out .entry))) ⌝ }
 {
-    apply_moded(image, address, limit, mode, Value::Float(value), b"", out)
+    applied_face(apply_at(
+        mode.edition,
+        mode.width,
+        image,
+        address,
+        limit,
+        Value::Float(value),
+        b"",
+        out,
+    ))
 }
 
 #[no_mangle]
@@ -100,7 +94,16 @@ pub extern "C" fn mdf_apply_mode_text(
     ensures { λ r. ⌜ face r (now (out .exit))
         ≡ callFace (applyingAt (mode .edition) (mode .width) (now (image .entry)) address limit Text (now (text .entry)) (now (out .entry))) ⌝ }
 {
-    apply_moded(image, address, limit, mode, Value::Text, text, out)
+    applied_face(apply_at(
+        mode.edition,
+        mode.width,
+        image,
+        address,
+        limit,
+        Value::Text,
+        text,
+        out,
+    ))
 }
 
 #[no_mangle]
@@ -114,5 +117,14 @@ pub extern "C" fn mdf_apply_mode_other(
     ensures { λ r. ⌜ face r (now (out .exit))
         ≡ callFace (applyingAt (mode .edition) (mode .width) (now (image .entry)) address limit Other [] (now (out .entry))) ⌝ }
 {
-    apply_moded(image, address, limit, mode, Value::Other, b"", out)
+    applied_face(apply_at(
+        mode.edition,
+        mode.width,
+        image,
+        address,
+        limit,
+        Value::Other,
+        b"",
+        out,
+    ))
 }

@@ -31,7 +31,7 @@ use Rattle.conversion.specs.Entry.{Call, call, refusedBefore, byCheck, settled,
 use Rattle.conversion.specs.declared.logic.Answer.the-variants.{Refused}
 use Rattle.conversion.proofs.Demand.{untouched}
 use Rattle.conversion.proofs.DemandThree.{demand-3}
-use Rattle.modes.specs.Asked.{isEdition, isWidth, modeOf, applyingAt}
+use Rattle.modes.specs.Asked.{isEdition, isWidth, modeOf, refusalOf, applyingAt}
 use Rattle.modes.proofs.Same.{below, held, same-bits, same-root}
 
 -- ---- the refusals of a call that has a mode
@@ -70,12 +70,12 @@ one-to-eight mode img a limit v t out r p = go (checked img a limit) refl
         omega (arith, check-refusals img a limit r (e ∙ ap Unsound it))
 
 -- ---- the bits that pass
-both : (p q : Bool) → (p && q) ≡ true → q ≡ true
-both true q h = h
+pub both : (p q : Bool) → (p && q) ≡ true → (p ≡ true) × (q ≡ true)
+both true q h = (refl, h)
 both false q h = clash cc
 
 at-most-64 : (width : ℕ) → isWidth width ≡ true → width ≤ 64
-at-most-64 width h = leb-true width 64 (both (ltb 0 width) (leb width 64) h)
+at-most-64 width h = leb-true width 64 (both (ltb 0 width) (leb width 64) h .1)
 
 -- a mask that has no bit below the width leaves nothing
 pub none-above : (mode : Mode) (v : Value) (bits k : ℕ) → bitsOf mode v ≡ Bits bits → bitAnd bits (k * 2 ^ mode .width) ≡ 0
@@ -126,6 +126,17 @@ module _ (img : List ℕ) (a limit : ℕ) (t out : List ℕ) where
     pub width-refused : (v : Value) → isEdition edition ≡ true → isWidth width ≡ false
         → applyingAt edition width img a limit v t out ≡ call (refusedBefore Width) out
     width-refused v h k = by-tests v true false h k
+
+    -- where one of the two tests fails
+    pub mode-refused : (v : Value) → (isEdition edition && isWidth width) ≡ false
+        → applyingAt edition width img a limit v t out ≡ call (refusedBefore (refusalOf (isEdition edition))) out
+    mode-refused v = go (isEdition edition) (isWidth width) refl refl
+      where
+        go : (named fits : Bool) → isEdition edition ≡ named → isWidth width ≡ fits → (named && fits) ≡ false
+            → applyingAt edition width img a limit v t out ≡ call (refusedBefore (refusalOf named)) out
+        go true true h k e = clash cc
+        go true false h k e = width-refused v h k
+        go false fits h k e = edition-refused v h
 
     answered : (v : Value) (c : Call) (r : Refusal) → applyingAt edition width img a limit v t out ≡ c
         → applyingAt edition width img a limit v t out .result .answer ≡ Refused r → c .result .answer ≡ Refused r

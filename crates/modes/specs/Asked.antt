@@ -5,6 +5,7 @@ use Prim.Native.Nat.{ℕ}
 use mathlib.Core.Bool.{Bool, cond, _&&_, _||_}
 use mathlib.Core.List.{List}
 use lib.Dec.{eqb, ltb, leb}
+use Rattle.common.specs.declared.refusal.Refusal.{Refusal}
 use Rattle.common.specs.declared.refusal.Refusal.the-variants.{Width, Edition as WrongEdition}
 use Rattle.rules.specs.declared.number.Value.{Value}
 use Rattle.steps.specs.declared.mode.Mode.{Mode}
@@ -33,3 +34,8 @@ applyingAt edition width img a limit v t out =
     cond (isEdition edition)
     (cond (isWidth width) (applying (modeOf edition width) img a limit v t out) (call (refusedBefore Width) out))
     (call (refusedBefore WrongEdition) out)
+
+-- ---- for inner contracts
+-- the refusal of a mode that is none, by whether its edition is one
+abbrev pub refusalOf : Bool → Refusal
+refusalOf named = cond named Width WrongEdition

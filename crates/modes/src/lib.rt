@@ -8,7 +8,7 @@ use steps::mode::Edition;
 use steps::mode::Mode;
 ghost use mathlib.Core.Path.{_≡_};
 ghost use Rattle.conversion.specs.Entry.{call};
-ghost use Rattle.modes.specs.Asked.{isEdition, isWidth, editionOf, modeOf, applyingAt};
+ghost use Rattle.modes.specs.Asked.{isEdition, isWidth, editionOf, modeOf, refusalOf, applyingAt};
 
 // The editions that differ in what a conversion does are 4.10 and 4.20.
 pub fn is_edition(edition: u32) -> bool
@@ -41,6 +41,17 @@ fn mode_of(edition: u32, width: u32) -> Mode
     Mode { width, edition }
 }
 
+// Why a mode is refused: for its width only where the edition is one.
+fn refusal_of(named: bool) -> Refusal
+    ensures { λ r. ⌜ r ≡ refusalOf named ⌝ }
+{
+    if named {
+        Refusal::Width
+    } else {
+        Refusal::Edition
+    }
+}
+
 // As `apply`, in an edition and for a signal of so many bits. In 4.10 a block of type 11 leaves its value unchanged; in 4.20 no more than so many low
 // bits of a whole number reach its masks. A wrong edition is refused before a wrong width, and either before anything else is looked at.
 pub fn apply_at(
@@ -56,21 +67,18 @@ pub fn apply_at(
     ensures { λ r. ⌜ call r (now (out .exit))
         ≡ applyingAt edition width (now (image .entry)) address limit value (now (text .entry)) (now (out .entry)) ⌝ }
 {
-    if is_edition(edition) {
-        if is_width(width) {
-            apply_in(
-                mode_of(edition, width),
-                image,
-                address,
-                limit,
-                value,
-                text,
-                out,
-            )
-        } else {
-            Applied::refused(Refusal::Width)
-        }
+    let named = is_edition(edition);
+    if named & is_width(width) {
+        apply_in(
+            mode_of(edition, width),
+            image,
+            address,
+            limit,
+            value,
+            text,
+            out,
+        )
     } else {
-        Applied::refused(Refusal::Edition)
+        Applied::refused(refusal_of(named))
     }
 }

@@ -37,7 +37,7 @@
 //!
 //! So the limit and the length of `out` are the caller's brake. Choose a limit well above the nested blocks that one conversion is expected to have:
 //! 4096 is generous. Choose `out` as long as the longest text that can be shown: a longer one is [`Refusal::Room`] at no more cost. A call takes at
-//! most 9,096 bytes of stack, and no heap.
+//! most 8,936 bytes of stack, and no heap.
 #![no_std]
 #![warn(missing_docs)]
 

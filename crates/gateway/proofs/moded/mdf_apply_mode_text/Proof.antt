@@ -1,8 +1,8 @@
--- `gateway::moded::apply_moded` meets its contract. Assumes nothing.
+-- `gateway::moded::mdf_apply_mode_text` meets its contract. Assumes nothing.
 use Rattle.gateway.proofs.Faces.{faced}
 use borrow.Author.Needs.{needs}
-use Rattle.gateway.proofs.moded.apply_moded.Statement.{statement}
-use Rattle.gateway.proofs.moded.apply_moded.Tie as tie
+use Rattle.gateway.proofs.moded.mdf_apply_mode_text.Statement.{statement}
+use Rattle.gateway.proofs.moded.mdf_apply_mode_text.Tie as tie
 
 apply-at-requires : tie.Need-apply-at-requires
 apply-at-requires c κs = search needs
@@ -16,5 +16,5 @@ same-length c = search needs
 returns : tie.Need-returns
 returns c = faced _ _ _ _ (c .before .before .before .apply-at .ensures) (c .applied-face .ensures)
 
-pub apply-moded-spec : {M : Type 1} → statement M
-apply-moded-spec = tie.close (tie.spec apply-at-requires applied-face-requires same-length returns)
+pub mdf-apply-mode-text-spec : {M : Type 1} → statement M
+mdf-apply-mode-text-spec = tie.close (tie.spec apply-at-requires applied-face-requires same-length returns)
