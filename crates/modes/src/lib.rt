@@ -10,7 +10,7 @@ ghost use mathlib.Core.Path.{_≡_};
 ghost use Rattle.conversion.specs.Entry.{call};
 ghost use Rattle.modes.specs.Asked.{isEdition, isWidth, editionOf, modeOf, refusalOf, applyingAt};
 
-// The editions that differ in what a conversion does are 4.10 and 4.20.
+// The editions that a caller can name: 410 is 4.10, and 420 is 4.20.
 pub fn is_edition(edition: u32) -> bool
     ensures { λ r. ⌜ r ≡ isEdition edition ⌝ }
 {
@@ -24,6 +24,7 @@ pub fn is_width(width: u32) -> bool
     (0 < width) & (width <= 64)
 }
 
+// Of a number that names one.
 fn edition_of(edition: u32) -> Edition
     ensures { λ r. ⌜ r ≡ editionOf edition ⌝ }
 {
