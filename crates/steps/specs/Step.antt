@@ -28,7 +28,7 @@ abbrev pub groupedBits : View → Word → Step
 groupedBits b (Bits bits) = ByBits b bits
 groupedBits b NoWord = Done plain.Unchanged
 
--- edition 4.10 does not know type 11
+-- "In 4.10, type 11 is unknown: it leaves its value Unchanged, .. and passes nothing to its references" (request [8])
 abbrev pub groupedIn : Edition → View → Word → Step
 groupedIn Mdf410 b w = Done plain.Unchanged
 groupedIn Mdf420 b w = groupedBits b w
