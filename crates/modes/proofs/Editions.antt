@@ -43,7 +43,7 @@ use Rattle.conversion.proofs.Demand.{after-check, few-visits-410}
 use Rattle.conversion.proofs.DemandThree.{demand-3}
 use Rattle.modes.specs.Asked.{isEdition, isWidth, modeOf, applyingAt}
 use Rattle.modes.proofs.Alike.{same-in-410, same-without}
-use Rattle.modes.proofs.Laws.{mode-taken, width-refused}
+use Rattle.modes.proofs.Laws.{called, mode-taken, width-refused}
 
 -- ---- 4.10: "type 11 is unknown: it leaves its value Unchanged, counts one in M, and passes nothing to its references"
 module _ (mode : Mode) (older : mode .edition ≡ Mdf410) (img t : List ℕ) where
@@ -120,28 +120,19 @@ module _ (img : List ℕ) (a limit : ℕ) (v : Value) (t out : List ℕ) where
       go false k = omega (arith, ap (λ (c : Call). c .result .applied) (width-refused img a limit t out 410 width v refl k))
 
   -- ---- where the mode plays no part
-  -- two modes whose applications are alike wherever the check accepts, give the same call: its refusals know no mode
-  alike : (one other : Mode) → ((n : ℕ) → checked img a limit ≡ Accepted n → applied 21 one img t a v ≡ applied 21 other img t a v)
-      → applying one img a limit v t out ≡ applying other img a limit v t out
-  unfolding applying
-  alike one other same = go (checked img a limit) refl
-    where
-      go : (c : Checked) → checked img a limit ≡ c
-          → byCheck c (λ n. settled n a (applied 21 one img t a v) out) out ≡ byCheck c (λ n. settled n a (applied 21 other img t a v) out) out
-      go (Accepted n) e = ap (λ (x : Ap). settled n a x out) (same n e)
-      go (Unsound r) e = refl
-
   -- in 4.10 the width changes nothing
   pub no-width-in-410 : (width : ℕ) → isWidth width ≡ true → applyingAt 410 width img a limit v t out ≡ applyingAt 410 64 img a limit v t out
+  unfolding applying
   no-width-in-410 width k =
       mode-taken img a limit t out 410 width v refl k
-      ∙ alike (modeOf 410 width) (modeOf 410 64) (λ n e. same-in-410 (modeOf 410 width) (modeOf 410 64) refl refl img t 21 a v)
+      ∙ called img a limit t out _ _ (λ _ _. same-in-410 (modeOf 410 width) (modeOf 410 64) refl refl img t 21 a v)
       ∙ sym (mode-taken img a limit t out 410 64 v refl refl)
 
   -- where none of the blocks begun has type 11, every mode is document 01's: edition and width change nothing
   pub mode-unneeded : (edition width : ℕ) → isEdition edition ≡ true → isWidth width ≡ true
       → NoGroups img (applied 21 (modeOf edition width) img t a v .begun) → applyingAt edition width img a limit v t out ≡ applying standard img a limit v t out
+  unfolding applying
   mode-unneeded edition width h k none =
       mode-taken img a limit t out edition width v h k
-      ∙ alike (modeOf edition width) standard
+      ∙ called img a limit t out _ _
       (λ n e. same-without (modeOf edition width) standard img t 21 a v (acceptance img a limit n e .sound) none)

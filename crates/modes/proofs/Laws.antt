@@ -1,31 +1,30 @@
 -- Laws of a call in a mode that is asked for in numbers, over what it answers (`applyingAt`), for every image, address, limit, text and output: the two
 -- tests, and the width. Those of the edition stand in `Editions`. Assumes nothing.
-use mathlib.Core.Path.{_≡_, refl, sym, ap, ap₂, _∙_}
+use mathlib.Core.Path.{_≡_, refl, sym, ap, ap₂, subst, _∙_}
 use mathlib.Core.Bool.{Bool, true, false, cond, _&&_}
 use mathlib.Core.Logic.{⊎-elim}
 use mathlib.Core.List.{List}
-use Prim.Native.Nat.{ℕ, _+_, _-_, _*_, _^_, _≤_}
+use Prim.Native.Nat.{ℕ, _*_, _^_, _≤_}
 use native.Mathlib.Nat.{lt-of-lt-of-le, lt-of-le-of-lt}
 use native.Mathlib.Omega.{arith}
 use borrow.Author.Tests.{leb-true}
 use lib.Bits.{bitAnd, and-comm, and-le-l, and-shifted}
 use lib.Dec.{ltb, leb}
-use lib.ListN.{length, getD}
 use lib.Pow.{pow-mono}
 use Rattle.words.proofs.Clash.{clash}
-use Rattle.common.specs.Header.{inside, isConversion}
 use Rattle.common.specs.Refusal.{numberOf}
 use Rattle.common.specs.declared.refusal.Refusal.{Refusal}
-use Rattle.common.specs.declared.refusal.Refusal.the-variants.{Outside, NotConversion, Limit, Short, Deep, Loop, Width, Edition as WrongEdition}
+use Rattle.common.specs.declared.refusal.Refusal.the-variants.{Width, Edition as WrongEdition}
 use Rattle.common.specs.declared.refusal.Word.the-variants.{Bits}
 use Rattle.blocks.specs.Block.{blockAt}
 use Rattle.rules.specs.declared.number.Value.{Value}
 use Rattle.rules.specs.declared.number.Value.the-variants.{Unsigned}
 use Rattle.steps.specs.Mode.{standard, bitsOf}
 use Rattle.steps.specs.declared.mode.Mode.{Mode}
-use Rattle.tree.specs.Walk.{End, complete, fault, short, deep, loop, trace, ended, answer, checked}
+use Rattle.tree.specs.Walk.{checked}
 use Rattle.tree.specs.declared.Checked.{Checked}
 use Rattle.tree.specs.declared.Checked.the-variants.{Accepted, Unsound}
+use Rattle.tree.proofs.Checks.{OneToSix, one-to-six}
 use Rattle.engine.specs.Apply.{Ap, applied}
 use Rattle.conversion.specs.Entry.{Call, call, refusedBefore, byCheck, settled, applying}
 use Rattle.conversion.specs.declared.logic.Answer.the-variants.{Refused}
@@ -35,27 +34,6 @@ use Rattle.modes.specs.Asked.{isEdition, isWidth, modeOf, refusalOf, app
 use Rattle.modes.proofs.Same.{below, held, same-bits, same-root}
 
 -- ---- the refusals of a call that has a mode
--- the check refuses with 1 to 6
-check-refusals : (img : List ℕ) (a l : ℕ) (r : Refusal) → checked img a l ≡ Unsound r → numberOf r ≤ 6
-unfolding checked answer
-check-refusals img a l r = go (inside img a) (isConversion img a) (ltb (l - 0) (length (trace img a .visits))) (trace img a .ending)
-  where
-    ending : (e : End) → ended (0 + length (trace img a .visits)) e ≡ Unsound r → numberOf r ≤ 6
-    ending complete p = clash cc
-    ending (fault (short x)) p = let same : Short x ≡ r = cc in omega (arith, ap numberOf same)
-    ending (fault (deep x)) p = let same : Deep x ≡ r = cc in omega (arith, ap numberOf same)
-    ending (fault (loop x)) p = let same : Loop x ≡ r = cc in omega (arith, ap numberOf same)
-
-    go : (x y z : Bool) (e : End)
-        → cond x
-        (cond y (cond z (Unsound (Limit (getD (trace img a .visits) (l - 0) 0))) (ended (0 + length (trace img a .visits)) e)) (Unsound (NotConversion a)))
-        (Unsound (Outside a)) ≡ Unsound r
-        → numberOf r ≤ 6
-    go true true true e p = let same : Limit (getD (trace img a .visits) (l - 0) 0) ≡ r = cc in omega (arith, ap numberOf same)
-    go true true false e p = ending e p
-    go true false z e p = let same : NotConversion a ≡ r = cc in omega (arith, ap numberOf same)
-    go false y z e p = let same : Outside a ≡ r = cc in omega (arith, ap numberOf same)
-
 -- a call in a mode refuses with 1 to 8
 pub one-to-eight : (mode : Mode) (img : List ℕ) (a limit : ℕ) (v : Value) (t out : List ℕ) (r : Refusal)
     → applying mode img a limit v t out .result .answer ≡ Refused r → numberOf r ≤ 8
@@ -67,7 +45,7 @@ one-to-eight mode img a limit v t out r p = go (checked img a limit) refl
     go (Unsound s) e =
         let same : Refused s ≡ Refused r = sym (demand-3 mode img a limit v t out .refused s e .answer) ∙ p in
         let it : s ≡ r = cc in
-        omega (arith, check-refusals img a limit r (e ∙ ap Unsound it))
+        omega (arith, subst OneToSix e (one-to-six img a limit), ap numberOf it)
 
 -- ---- the bits that pass
 pub both : (p q : Bool) → (p && q) ≡ true → (p ≡ true) × (q ≡ true)
@@ -94,14 +72,20 @@ under-groups d edition width img t a v bits mask h e =
 
 -- ---- one call
 module _ (img : List ℕ) (a limit : ℕ) (t out : List ℕ) where
-  called : (x y : Ap) → x ≡ y → byCheck (checked img a limit) (λ n. settled n a x out) out ≡ byCheck (checked img a limit) (λ n. settled n a y out) out
-  called x y e = ap (λ (z : Ap). byCheck (checked img a limit) (λ n. settled n a z out) out) e
+  -- two applications that are the same wherever the check accepts give the same call: the check's refusals know no mode and no value
+  pub called : (x y : Ap) → ((n : ℕ) → checked img a limit ≡ Accepted n → x ≡ y)
+      → byCheck (checked img a limit) (λ n. settled n a x out) out ≡ byCheck (checked img a limit) (λ n. settled n a y out) out
+  called x y same = go (checked img a limit) refl
+    where
+      go : (c : Checked) → checked img a limit ≡ c → byCheck c (λ n. settled n a x out) out ≡ byCheck c (λ n. settled n a y out) out
+      go (Accepted n) e = ap (λ (z : Ap). settled n a z out) (same n e)
+      go (Unsound r) e = refl
 
   -- two modes of one edition, at a block of type 11: the call is the same wherever the same bits of the two values pass
   same-groups : (one other : Mode) → one .edition ≡ other .edition → (v w : Value) → blockAt img a .kind ≡ 11 → bitsOf one v ≡ bitsOf other w
       → applying one img a limit v t out ≡ applying other img a limit w t out
   unfolding applying
-  same-groups one other e v w eleven h = called _ _ (same-root one other e img t 21 a v w eleven h)
+  same-groups one other e v w eleven h = called _ _ (λ _ _. same-root one other e img t 21 a v w eleven h)
 
   module _ (edition width : ℕ) where
     -- what the two tests decide
@@ -202,7 +186,7 @@ module _ (img : List ℕ) (a limit : ℕ) (t out : List ℕ) where
     unfolding applying
     width-unneeded v h =
         mode-taken edition width v named fits
-        ∙ called _ _ (same-bits (modeOf edition width) (modeOf edition 64) refl img t 21 a v h)
+        ∙ called _ _ (λ _ _. same-bits (modeOf edition width) (modeOf edition 64) refl img t 21 a v h)
         ∙ sym (mode-taken edition 64 v named refl)
 
   -- edition 4.20 and width 64 are document 01's rule: the entry then answers what `apply` answers

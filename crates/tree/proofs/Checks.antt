@@ -1,4 +1,4 @@
--- The check after each test of the root; and demand 3: the visit limit is refused exactly when the walk would begin one visit too many before
+-- The check after each test of the root, and its refusals by number; and demand 3: the visit limit is refused exactly when the walk would begin one visit too many before
 -- it meets another fault. Assumes nothing.
 use mathlib.Core.Path.{_≡_, refl, sym, ap, _∙_}
 use mathlib.Core.Bool.{Bool, true, false, cond}
@@ -6,13 +6,15 @@ use mathlib.Core.Logic.{⊎-elim}
 use mathlib.Core.List.{List}
 use Prim.Native.Nat.{ℕ, _+_, _-_, _≤_, _<_}
 use native.Mathlib.Omega.{arith}
+use lib.Dec.{ltb}
 use lib.ListN.{length, getD}
 use Rattle.words.proofs.Clash.{clash}
 use Rattle.common.specs.Header.{inside, isConversion}
+use Rattle.common.specs.Refusal.{numberOf}
 use Rattle.common.specs.declared.refusal.Refusal.the-variants.{Outside, NotConversion, Limit}
 use Rattle.tree.specs.Walk.{End, complete, fault, short, deep, loop, trace, ended, answer, checked}
 use Rattle.tree.specs.declared.Checked.{Checked}
-use Rattle.tree.specs.declared.Checked.the-variants.{Unsound}
+use Rattle.tree.specs.declared.Checked.the-variants.{Accepted, Unsound}
 use Rattle.tree.proofs.Answers.{lt-or-le, over, under}
 
 module _ (img : List ℕ) (a l : ℕ) where
@@ -44,6 +46,31 @@ module _ (img : List ℕ) (a l : ℕ) where
       go true true s t e = (record { header = s; conversion = t }, e)
       go true false s t e = absurd (q e)
       go false z s t e = absurd (p e)
+
+-- ---- its refusals are 1 to 6
+abbrev pub OneToSix : Checked → Type 0
+OneToSix (Accepted n) = Unit {0}
+OneToSix (Unsound r) = numberOf r ≤ 6
+
+pub one-to-six : (img : List ℕ) (a l : ℕ) → OneToSix (checked img a l)
+unfolding checked answer
+one-to-six img a l = go (inside img a) (isConversion img a) (ltb (l - 0) (length (trace img a .visits))) (trace img a .ending)
+  where
+    ending : (n : ℕ) (e : End) → OneToSix (ended n e)
+    ending n complete = tt
+    ending n (fault (short x)) = omega arith
+    ending n (fault (deep x)) = omega arith
+    ending n (fault (loop x)) = omega arith
+
+    go : (x y z : Bool) (e : End)
+        → OneToSix
+        (cond x
+        (cond y (cond z (Unsound (Limit (getD (trace img a .visits) (l - 0) 0))) (ended (0 + length (trace img a .visits)) e)) (Unsound (NotConversion a)))
+        (Unsound (Outside a)))
+    go true true true e = omega arith
+    go true true false e = ending (0 + length (trace img a .visits)) e
+    go true false z e = omega arith
+    go false y z e = omega arith
 
 -- ---- the limit, exactly
 -- a walk's own ending is no Limit
