@@ -1,5 +1,6 @@
 # `make test` is the whole test command; `make demo` shows the main job on the sample image; `make face` tries the C header, the Rust crate and the
-# examples; `make compare` asks the crate mf4-rs as well, and `make bench` takes the speed beside it.
+# examples; `make repair` makes the program that repairs a block, and tries it; `make compare` asks the crate mf4-rs as well, and `make bench` takes the
+# speed beside it.
 KIT := $(shell cat KIT)
 
 # The comparison: N cases from SEED on, the folder of the crate's source, and the folder of the packages that the source needs.
@@ -9,7 +10,7 @@ MF4_SOURCE ?= ../shared/docs/src/src
 CARGO_REGISTRY ?= /usr/share/cargo/registry
 export MF4_SOURCE CARGO_REGISTRY
 
-.PHONY: test demo face compare sharp record bench kit
+.PHONY: test demo face repair compare sharp record bench kit
 
 # The gate comes first and proves everything from nothing. The faces and the comparison then link what it has just proved, so that nothing is proved
 # twice; the comparison runs where its source and packages are at hand, or can be installed, and is otherwise named in one line. The gate's verdict is
@@ -19,7 +20,7 @@ test: kit
 	@said="$$(mktemp)"; { rt ci 2>&1; echo "$$?" > "$$said.status"; } | tee "$$said"; \
 	verdict="$$(tail -n 1 "$$said")"; status="$$(cat "$$said.status")"; rm -f "$$said" "$$said.status"; \
 	[ "$$status" = 0 ] || exit 1; \
-	$(MAKE) --no-print-directory face && compare/run --if-possible run $(N) $(SEED) && echo "$$verdict"
+	$(MAKE) --no-print-directory face repair && compare/run --if-possible run $(N) $(SEED) && echo "$$verdict"
 
 # The program is proved before it is run. It is shown which crate is being proved, k of n; what the prover says is kept in target/demo.log.
 demo: kit
@@ -32,6 +33,11 @@ face: kit
 	@mkdir -p target; echo "Proving what C and Rust link: some minutes the first time."
 	@tools/progress target/face.log gateway rt staticlib gateway || { tail -n 20 target/face.log; exit 1; }
 	@sh face/test.sh
+
+# The program of crate repair_block, proved, and run on inputs whose answers tools/repaired.py works out.
+repair: kit
+	@mkdir -p target; tools/progress target/repair.log repair_block rt check repair_block || { tail -n 20 target/repair.log; exit 1; }
+	@if command -v python3 > /dev/null; then tools/repaired.py target/bin/repair_block; else echo "repair: no python3 here, so not run: repair_block on its inputs"; fi
 
 compare: kit
 	@compare/run run $(N) $(SEED)

@@ -1,6 +1,9 @@
-// Damages an image: cut off, looping, deep, with huge counts, with broken ids, texts and links; and addresses that hold no block.
+// Damages an image: cut off, looping, deep, with huge counts, with few links, with broken ids, texts and links; and addresses that hold no block.
 use crate::plan::Laid;
 use crate::random::Random;
+use crate::scene::WIDE_LIMIT;
+use crate::second::RIGHT;
+use crate::side::Side;
 
 #[rustfmt::skip]
 const ODD_WORDS: &[u64] = &[
@@ -54,6 +57,20 @@ pub fn damage(laid: &mut Laid, root: u64, r: &mut Random) {
             image[at] = if r.chance(50) { image[at] ^ (1 << r.below(8)) } else { r.next() as u8 };
         }
     }
+}
+
+/// Sets the link count of a block to 0 to 5. Often that is the block at which the walk is refused already, so that blocks with few links are short
+/// and too deep as well; else it is the root, or any other conversion.
+pub fn few_links(laid: &mut Laid, root: u64, r: &mut Random) {
+    let checked = RIGHT.check(&laid.image, root, WIDE_LIMIT);
+    let is_conversion = |at: u64| laid.image.get(at as usize..).is_some_and(|bytes| bytes.starts_with(b"##CC"));
+    let others: Vec<u64> = laid.places.iter().copied().filter(|&at| at != root && is_conversion(at)).collect();
+    let block = match r.below(10) {
+        0..=6 if checked.refusal != 0 => checked.address,
+        0..=6 if !others.is_empty() => r.pick(&others),
+        _ => root,
+    };
+    put(&mut laid.image, (block as usize).saturating_add(16), &(r.below(6) as u64).to_le_bytes());
 }
 
 /// Ends the image: anywhere, or close to where a block ends or starts.

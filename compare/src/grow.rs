@@ -1,5 +1,5 @@
-// Grows plans of images: every type but the formula, nested to 21 levels, with shared leaves, names under bit groups, link counts below
-// four, ranges present and absent, odd and unsorted tables. Most plans lie in the domain; the rare ones that do not are meant.
+// Grows plans of images: every type but the formula, nested to 21 levels, with shared leaves, names under bit groups, ranges present and absent,
+// odd and unsorted tables. Most plans lie in the domain; the rare ones that do not are meant.
 use crate::numbers;
 use crate::plan::{Conversion, Link, Node, Plan};
 use crate::random::Random;
@@ -125,6 +125,12 @@ impl Grower<'_> {
         self.add(Node::Foreign { id, body })
     }
 
+    /// A block that is refused for its link count: huge, or below four.
+    fn bare(&mut self) -> usize {
+        let links = if self.r.chance(50) { 1 << 40 } else { self.r.below(4) as u64 };
+        self.add(Node::Bare { links })
+    }
+
     /// A nested block of at most so many levels: one that stands already, or a new one.
     fn nested(&mut self, levels: usize) -> Option<usize> {
         let known = |n: &usize| self.levels[*n] > 0 && self.levels[*n] <= levels && self.visits[*n] < 200;
@@ -144,7 +150,7 @@ impl Grower<'_> {
             87..=93 => Link::To(self.foreign()),
             94..=96 => Link::BeforeEnd(self.r.below(24) as u64),
             97 | 98 => Link::At(1 << (20 + self.r.below(40))),
-            _ if self.wild && self.r.chance(50) => Link::To(self.add(Node::Endless)),
+            _ if self.wild && self.r.chance(50) => Link::To(self.bare()),
             _ if self.wild => Link::At(u64::MAX - self.r.below(40) as u64),
             _ => Link::At(u64::MAX / 2 - self.r.below(40) as u64),
         }
@@ -154,6 +160,7 @@ impl Grower<'_> {
     fn key_link(&mut self, levels: usize) -> Link {
         match self.r.below(100) {
             0..=79 => Link::To(self.text()),
+            80 if self.wild => Link::To(self.bare()),
             80..=93 => Link::Nil,
             94..=97 => self.nested(levels).map_or(Link::Nil, Link::To),
             _ if self.wild => self.any_link(levels),
@@ -337,8 +344,6 @@ impl Grower<'_> {
 
     /// A body with header, fixed links, flags, range and block length.
     fn block(&mut self, body: Body) -> usize {
-        let low = body.refs.is_empty() && self.r.chance(20);
-        let low_links = low.then(|| self.r.below(4) as u64);
         let range = self.r.chance(40).then(|| (numbers::word(self.r), numbers::word(self.r)));
         let name = if self.r.chance(45) { Link::To(self.text()) } else { Link::Nil };
         let loose = |g: &mut Self| if g.r.chance(80) { Link::Nil } else { Link::At(g.r.next()) };
@@ -351,7 +356,6 @@ impl Grower<'_> {
             precision: self.r.below(256) as u8,
             flags,
             ref_count,
-            low_links,
             fixed,
             refs: body.refs,
             length: 0,
@@ -367,8 +371,8 @@ impl Grower<'_> {
         let (size, edge) = (c.size() as u64, c.range_from());
         let far = self.r.below(edge as usize) as u64;
         let lengths = match c.range {
-            Some(_) => [size.max(edge), size.max(edge), edge, edge + 8, u64::MAX, edge + far],
-            None => [size.min(edge - 1), size.min(edge - 1), edge - 1, 0, 24, far],
+            Some(_) => [size, size, edge, edge + 8, u64::MAX, edge + far],
+            None => [size, size, edge - 1, 0, 24, far],
         };
         self.r.pick(&lengths)
     }
@@ -377,8 +381,8 @@ impl Grower<'_> {
     fn chain(&mut self) -> usize {
         let longest = if self.wild { 23 } else { MOST_LEVELS };
         let levels = if self.r.chance(50) { longest - self.r.below(2) } else { 2 + self.r.below(longest - 1) };
-        let endless = self.wild && self.r.chance(30);
-        let mut next = if endless { self.add(Node::Endless) } else { self.tree(1) };
+        let refused = self.wild && self.r.chance(50);
+        let mut next = if refused { self.bare() } else { self.tree(1) };
         for _ in 1..levels {
             let body = self.passing(next);
             next = self.block(body);

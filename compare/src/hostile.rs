@@ -49,7 +49,6 @@ impl Hostile<'_> {
             precision: 0,
             flags: 0,
             ref_count: refs.len() as u16,
-            low_links: None,
             fixed: [name, Link::Nil, Link::Nil, Link::Nil],
             refs,
             length: 0,

@@ -2,10 +2,11 @@
 use crate::bound::tree_of;
 use crate::domain::{self, Place};
 use crate::scene::{Ask, Fields, Scene};
-use crate::second::RIGHT;
-use crate::side::{Applied, Side, Value, STANDARD};
+use crate::second::{Second, RIGHT};
+use crate::side::{Applied, Checked, Side, Value, STANDARD};
 use crate::tally::Tally;
 use crate::theirs::{self, Outcome};
+use crate::wrong::Wrong;
 use oracle::blocks::conversion::ConversionBlock;
 use oracle::error::MdfError;
 use oracle::parsing::decoder::DecodedValue;
@@ -51,8 +52,14 @@ pub fn with_crate(side: &dyn Side, scene: &Scene, tally: &mut Tally) -> Verdict 
     if (scene.address as u128 + 24) > scene.image.len() as u128 || has_huge_links(&scene.image) {
         return Ok(());
     }
-    if RIGHT.check(&scene.image, scene.address, CRATE_LIMIT).refusal == 3 {
-        return Ok(());
+    match RIGHT.check(&scene.image, scene.address, CRATE_LIMIT).refusal {
+        3 => return Ok(()),
+        18 => {
+            // The crate reads such a block and walks on.
+            tally.add("outside the domain, by reason", "a link count below 4");
+            return Ok(());
+        }
+        _ => {}
     }
     if scene.hostile && tree_of(&scene.image, scene.address, &mut HashMap::new()).texts > CRATE_TEXTS {
         tally.add("crate, hostile images", "not asked, too much text");
@@ -100,7 +107,7 @@ fn has_huge_links(image: &[u8]) -> bool {
 }
 
 /// The walk, also outside the domain: acceptance with N, and those refusals that the crate has as errors of their own.
-fn compare_walk(ours: crate::side::Checked, theirs: &Outcome<ConversionBlock>, tally: &mut Tally) -> Verdict {
+fn compare_walk(ours: Checked, theirs: &Outcome<ConversionBlock>, tally: &mut Tally) -> Verdict {
     let (refusal, told) = match theirs {
         Outcome::Answer(block) => {
             let n = theirs::tree_size(block);
@@ -153,7 +160,6 @@ fn inside(side: &dyn Side, scene: &Scene, block: &ConversionBlock, tally: &mut T
     tally.add("crate, parses by type", type_class(parsed.block.kind));
     tally.add("crate, parses by range", if parsed.block.ranged { "with range" } else { "without range" });
     tally.add_if(scene.address == 0, "crate, parses by place", "root at address 0");
-    tally.add_if(parsed.block.links < 4, "crate, parses by place", "links below 4");
     written_block(side, parsed.block, block, tally)?;
     tally.add("crate, images by levels", levels(block));
     for ask in &scene.asks {
@@ -296,6 +302,7 @@ pub fn with_side(a: &dyn Side, b: &dyn Side, scene: &Scene, tally: &mut Tally) -
     let parsed = a.parse(image, address);
     same("the parse", parsed, b.parse(image, address))?;
     tally.add("second reading, parses by refusal", parsed.refusal);
+    count_few_links(scene, checked, parsed.refusal, tally);
     fields_alike(a, b, &scene.fields, tally)?;
     for ask in &scene.asks {
         let (mut out_a, mut out_b) = (output(ask.room), output(ask.room));
@@ -314,6 +321,26 @@ pub fn with_side(a: &dyn Side, b: &dyn Side, scene: &Scene, tally: &mut Tally) -
         }
     }
     Ok(())
+}
+
+/// Where a link count below 4 was met, and whether 3, 4 or 5 was as well.
+fn count_few_links(scene: &Scene, checked: Checked, parse_refusal: u32, tally: &mut Tally) {
+    let group = "second reading, link counts below 4";
+    tally.add_if(parse_refusal == 18, group, "parses refused with 18");
+    let limited = checked.refusal == 3 && RIGHT.parse(&scene.image, checked.address).refusal == 18;
+    tally.add_if(limited, group, "checks refused with 3 there");
+    if checked.refusal != 18 {
+        return;
+    }
+    let place = if checked.address == scene.address { "at the root" } else { "below it" };
+    tally.add(group, format!("checks refused with 18 {place}"));
+    let untested = Second { wrong: Wrong::FewTakenByCheck }.check(&scene.image, scene.address, scene.limit);
+    let also = match untested.refusal {
+        4 if untested.address == checked.address => "a short block",
+        5 if untested.address == checked.address => "a block at depth 21",
+        _ => "no other refusal of the block",
+    };
+    tally.add("second reading, checks refused with 18, by what else is met", also);
 }
 
 /// The entry with a mode, which the crate does not have. `plain` is the answer of the one without, and its output.

@@ -12,13 +12,12 @@ pub enum Link {
     BeforeEnd(u64),
 }
 
-/// A ##CC block. `links` is what the header says where that is below four; the length is as written in the header.
+/// A ##CC block. The length is as written in the header.
 pub struct Conversion {
     pub kind: u8,
     pub precision: u8,
     pub flags: u16,
     pub ref_count: u16,
-    pub low_links: Option<u64>,
     pub fixed: [Link; 4],
     pub refs: Vec<Link>,
     pub length: u64,
@@ -34,8 +33,10 @@ pub enum Node {
         zeros: usize,
         length_off: i64,
     },
-    /// The header of a ##CC with more links than any image holds.
-    Endless,
+    /// The header of a ##CC and no more: its link count is more than any image holds, or below four.
+    Bare {
+        links: u64,
+    },
     /// A block of another id.
     Foreign {
         id: [u8; 4],
@@ -55,17 +56,21 @@ pub struct Laid {
 }
 
 impl Conversion {
-    pub fn header_links(&self) -> u64 {
-        self.low_links.unwrap_or(4 + self.refs.len() as u64)
+    fn links(&self) -> usize {
+        4 + self.refs.len()
+    }
+
+    fn size_without_range(&self) -> usize {
+        24 + 8 * self.links() + 8 + 8 * self.values.len()
     }
 
     /// The least block length with a range.
     pub fn range_from(&self) -> u64 {
-        24 + 8 * self.header_links() + 8 + 8 * self.values.len() as u64 + 16
+        self.size_without_range() as u64 + 16
     }
 
     pub fn size(&self) -> usize {
-        24 + 8 * (4 + self.refs.len()) + 8 + 16 * self.range.is_some() as usize + 8 * self.values.len()
+        self.size_without_range() + 16 * self.range.is_some() as usize
     }
 }
 
@@ -74,7 +79,7 @@ impl Node {
         match self {
             Node::Conversion(c) => c.size(),
             Node::Text { bytes, zeros, .. } => 24 + bytes.len() + zeros,
-            Node::Endless => 24,
+            Node::Bare { .. } => 24,
             Node::Foreign { body, .. } => 24 + body.len(),
         }
     }
@@ -139,7 +144,7 @@ impl Plan {
         let mut b = Bytes(Vec::with_capacity(node.size()));
         match node {
             Node::Conversion(c) => {
-                b.header(b"##CC", c.length, c.header_links());
+                b.header(b"##CC", c.length, c.links() as u64);
                 b.words(&c.fixed.iter().chain(&c.refs).map(link).collect::<Vec<u64>>());
                 b.0.extend([c.kind, c.precision]);
                 [c.flags, c.ref_count, c.values.len() as u16].iter().for_each(|h| b.0.extend(h.to_le_bytes()));
@@ -152,7 +157,7 @@ impl Plan {
                 b.0.extend(bytes);
                 b.0.extend(vec![0; *zeros]);
             }
-            Node::Endless => b.header(b"##CC", 24, 1 << 40),
+            Node::Bare { links } => b.header(b"##CC", 24, *links),
             Node::Foreign { id, body } => {
                 b.header(id, 24 + body.len() as u64, 0);
                 b.0.extend(body);

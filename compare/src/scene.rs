@@ -16,7 +16,7 @@ pub const ASKS: usize = 8;
 pub const HOSTILE_EVERY: u64 = 1000;
 
 /// A limit that no grown tree reaches.
-const WIDE_LIMIT: u32 = 20_000;
+pub const WIDE_LIMIT: u32 = 20_000;
 
 /// Widths and editions are each drawn apart, so that they change no image and no value of a seed, nor each other.
 const WIDTHS: u64 = 0x7769_6474_6873;
@@ -88,6 +88,10 @@ impl Scene {
                 address = damage::address(&laid, address, &mut r);
             }
         }
+        // Behind all other damage, so that it meets that too.
+        if r.chance(8) {
+            damage::few_links(&mut laid, address, &mut r);
+        }
         assert!(laid.image.len() <= LARGEST_IMAGE);
         let limit = limit(&laid.image, address, &mut r);
         let root = RIGHT.opened(&laid.image, address);
@@ -134,10 +138,10 @@ impl Scene {
     }
 }
 
-/// Mostly more than the walk takes; sometimes just so much, or too little.
+/// Mostly more than the walk begins, up to its end or its refusal; sometimes just so much, or too little.
 fn limit(image: &[u8], address: u64, r: &mut Random) -> u32 {
     let checked = RIGHT.check(image, address, WIDE_LIMIT);
-    let n = if checked.refusal == 0 { checked.visits } else { 3 };
+    let n = if checked.refusal == 0 { checked.visits } else { RIGHT.begun(image, address, WIDE_LIMIT).max(1) };
     match r.below(100) {
         0..=59 => WIDE_LIMIT,
         60..=69 if checked.refusal == 0 => u32::MAX,

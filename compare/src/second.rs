@@ -1,5 +1,5 @@
-// A second reading of document 01 and requests [2], [5] and [8], plain and slow: check, apply, parse, write and the type 10 entry. It judges the
-// proved build where the crate has no say, and with one rule broken (`wrong`) it is a wrong build that the comparison has to catch.
+// A second reading of document 01 and requests [2], [5], [8] and [11], plain and slow: check, apply, parse, write and the type 10 entry. It judges
+// the proved build where the crate has no say, and with one rule broken (`wrong`) it is a wrong build that the comparison has to catch.
 mod apply;
 mod block;
 mod rules;
@@ -52,48 +52,43 @@ impl Second {
         self.accepted_in(false, image, address, limit)
     }
 
-    /// Root first: refusals 1, 2, 3, 4; then its references.
     fn accepted_in(&self, older: bool, image: &[u8], address: u64, limit: u32) -> Result<u32, Refused> {
+        let (begun, walked) = self.walked(older, image, address, limit);
+        walked.map(|_| begun)
+    }
+
+    /// How many visits the check begins, up to its end or to the block that it is refused at.
+    pub fn begun(&self, image: &[u8], address: u64, limit: u32) -> u32 {
+        self.walked(false, image, address, limit).0
+    }
+
+    /// The visits that a walk begins, and how it ends.
+    fn walked(&self, older: bool, image: &[u8], address: u64, limit: u32) -> (u32, Result<(), Refused>) {
+        let limit = limit as u64 - (self.is(Wrong::LimitOneLess) && limit > 0) as u64;
+        let mut walk = Walk { image, limit, visits: 0, path: Vec::new(), seen: Vec::new(), older };
+        let walked = self.walk_root(&mut walk, address);
+        (walk.visits as u32, walked)
+    }
+
+    /// Root first: refusals 1, 2, 3, 18, 4; then its references.
+    fn walk_root(&self, walk: &mut Walk, address: u64) -> Result<(), Refused> {
         let more = if self.is(Wrong::RootHeaderOneByteMore) { 1 } else { 0 };
-        if address as u128 + 24 + more > image.len() as u128 {
+        if address as u128 + 24 + more > walk.image.len() as u128 {
             return Err((1, address));
         }
-        if block::id_at(image, address) != Some(b"##CC") {
-            return Err((2, address));
+        if block::id_at(walk.image, address) != Some(b"##CC") {
+            let few = self.is(Wrong::FewBeforeIdAtRoot) && self.has_few_links(walk.image, address);
+            return Err((if few { 18 } else { 2 }, address));
         }
         if self.is(Wrong::OnlyRefuses) {
             return Err((3, address));
         }
-        let limit = limit as u64 - (self.is(Wrong::LimitOneLess) && limit > 0) as u64;
-        let mut walk = Walk { image, limit, visits: 0, path: Vec::new(), seen: Vec::new(), older };
-        self.visit(&mut walk, address, 0)?;
-        Ok(walk.visits as u32)
+        self.visit(walk, address, 0)
     }
 
-    /// One visit of a ##CC block: refusals 3, 4, 5, then its references.
+    /// One visit of a ##CC block, then its references.
     fn visit(&self, walk: &mut Walk, address: u64, depth: u32) -> Result<(), Refused> {
-        let deepest = match self.wrong {
-            Wrong::DepthOneLess => 19,
-            Wrong::DepthOneMore => 21,
-            _ => 20,
-        };
-        let found = self.read(walk.image, address);
-        if self.is(Wrong::ShortBeforeLimit) && found.is_none() {
-            return Err((4, address));
-        }
-        if walk.visits >= walk.limit {
-            return Err((3, if self.is(Wrong::LimitWithoutAddress) { 0 } else { address }));
-        }
-        if !(self.is(Wrong::RepeatsCountOnce) && walk.seen.contains(&address)) {
-            walk.visits += 1;
-        }
-        if self.is(Wrong::DeepBeforeShort) && depth > deepest {
-            return Err((5, address));
-        }
-        let found = found.ok_or((4, address))?;
-        if depth > deepest {
-            return Err((5, address));
-        }
+        let found = self.begin(walk, address, depth)?;
         if matches!(self.wrong, Wrong::RepeatsCountOnce | Wrong::OneVisitedSet) {
             walk.seen.push(address);
         }
@@ -119,6 +114,91 @@ impl Second {
         Ok(())
     }
 
+    /// The refusals of a visit, in their order. `few`: whether its link count is below 4, so that the build with 4 before 3 keeps 18 before 4.
+    fn visit_order(&self, depth: u32, few: bool) -> [u32; 4] {
+        match (self.wrong, depth) {
+            (Wrong::ShortBeforeLimit, _) if !few => [4, 3, 18, 5],
+            (Wrong::DeepBeforeShort, _) => [3, 18, 5, 4],
+            (Wrong::FewBeforeLimit, 1..) | (Wrong::FewBeforeLimitAtRoot, 0) => [18, 3, 4, 5],
+            (Wrong::ShortBeforeFew, 1..) | (Wrong::ShortBeforeFewAtRoot, 0) => [3, 4, 18, 5],
+            (Wrong::DeepBeforeFew, _) => [3, 5, 18, 4],
+            _ => [3, 18, 4, 5],
+        }
+    }
+
+    /// The block of a visit, or its refusal. Where the limit is not used up the visit is begun, and counted, whether 18, 4 or 5 follows or not.
+    fn begin(&self, walk: &mut Walk, address: u64, depth: u32) -> Result<Found, Refused> {
+        let deepest = match self.wrong {
+            Wrong::DepthOneLess => 19,
+            Wrong::DepthOneMore => 21,
+            _ => 20,
+        };
+        let found = self.read(walk.image, address);
+        let few = self.tests_links(depth) && self.has_few_links(walk.image, address);
+        let wanted = if self.is(Wrong::FewOnLastVisit) && few { 2 } else { 1 };
+        for number in self.visit_order(depth, few) {
+            let met = match number {
+                3 => walk.visits + wanted > walk.limit,
+                18 => few,
+                4 => found.is_none(),
+                _ => depth > deepest,
+            };
+            if met {
+                return Err(self.refusal(number, address, walk.path.last().copied()));
+            }
+            if number == 3 && !(self.is(Wrong::RepeatsCountOnce) && walk.seen.contains(&address)) {
+                walk.visits += 1;
+            }
+        }
+        found.ok_or((4, address))
+    }
+
+    /// Whether the link count of a block at an address is below 4 (request [11]).
+    fn has_few_links(&self, image: &[u8], address: u64) -> bool {
+        let links = block::links_at(image, address);
+        match self.wrong {
+            Wrong::ThreeLinksTaken => links < 3,
+            Wrong::FourLinksRefused => links <= 4,
+            Wrong::FewByLowBits => (links as u32) < 4,
+            Wrong::FewSigned => (links as i64) < 4,
+            _ => links < 4,
+        }
+    }
+
+    /// Whether the check tests the link count of a block at this depth; it does but in wrong builds.
+    fn tests_links(&self, depth: u32) -> bool {
+        match self.wrong {
+            Wrong::FewTakenByCheck => false,
+            Wrong::FewTakenBelowRoot => depth == 0,
+            Wrong::FewTakenAtRoot => depth > 0,
+            _ => true,
+        }
+    }
+
+    /// A refusal of a block has the block's address. `holder` is the block whose reference leads there.
+    fn refusal(&self, number: u32, address: u64, holder: Option<u64>) -> Refused {
+        match (self.wrong, number) {
+            (Wrong::LimitWithoutAddress, 3) | (Wrong::FewWithoutAddress, 18) => (number, 0),
+            (Wrong::FewNamesHolder, 18) => (18, holder.unwrap_or(address)),
+            (Wrong::FewIsShort, 18) => (4, address),
+            _ => (number, address),
+        }
+    }
+
+    /// Parsing: refusals 1, 2, 18, 4.
+    fn parsed(&self, image: &[u8], address: u64) -> Result<Found, Refused> {
+        let id = block::id_at(image, address).ok_or((1, address))?;
+        let few = self.has_few_links(image, address) && !self.is(Wrong::FewTakenByParsing);
+        if id != b"##CC" && !(few && self.is(Wrong::FewBeforeIdInParsing)) {
+            return Err((2, address));
+        }
+        let found = self.read(image, address);
+        if few && !(found.is_none() && self.is(Wrong::ShortBeforeFewInParsing)) {
+            return Err(self.refusal(18, address, None));
+        }
+        found.ok_or((4, address))
+    }
+
     /// Whether a wrong build adds the visits of the last nested reference in the place of walking this one.
     fn is_remembered(&self, last: &Remembered, walk: &Walk, link: u64) -> bool {
         match self.wrong {
@@ -142,7 +222,9 @@ impl Second {
             return Err((if full { 3 } else { number }, named));
         }
         match block::id_at(walk.image, link) {
+            Some(b"##CC") if self.is(Wrong::FewSkipped) && self.has_few_links(walk.image, link) => Ok(()),
             Some(b"##CC") => self.visit(walk, link, depth + 1),
+            Some(_) if self.is(Wrong::FewOfAnyId) && self.has_few_links(walk.image, link) => Err((18, link)),
             None if self.is(Wrong::OutsideLinkRefused) => Err((1, link)),
             _ => Ok(()),
         }
@@ -252,6 +334,16 @@ impl Second {
         Applied { refusal, kind: 0, number: 0.0, length: 0, address, checked: visits, applied: 0, malformed: 0 }
     }
 
+    /// What the wrong builds answer otherwise where the check refuses with 18.
+    fn spoil_few(&self, answer: &mut Applied, begun: impl Fn() -> u32, out: &mut [u8]) {
+        match self.wrong {
+            Wrong::FewAppliedWithoutAddress => answer.address = 0,
+            Wrong::FewWithVisits => answer.checked = begun(),
+            Wrong::FewTouchesOutput if !out.is_empty() => out[0] = 0,
+            _ => {}
+        }
+    }
+
     /// Check, then application, in a mode.
     #[allow(clippy::too_many_arguments)]
     fn applied(&self, mode: Mode, image: &[u8], address: u64, limit: u32, value: Value, text: &[u8], out: &mut [u8]) -> Applied {
@@ -260,7 +352,11 @@ impl Second {
             Err((refusal, named)) => {
                 let root = self.opened(image, address).filter(|_| self.is(Wrong::OddTableOfRefused));
                 let malformed = root.is_some_and(|found| self.consults(&found, value)) as u32;
-                Applied { refusal, kind: 0, number: 0.0, length: 0, address: named, checked: 0, applied: 0, malformed }
+                let mut answer = Applied { refusal, kind: 0, number: 0.0, length: 0, address: named, checked: 0, applied: 0, malformed };
+                if refusal == 18 {
+                    self.spoil_few(&mut answer, || self.begun(image, address, limit), out);
+                }
+                answer
             }
             Ok(checked) => {
                 let mut run = Application { second: self, image, text, most: out.len() + 1, begun: 0, longest: 0, malformed: false, width, older };
@@ -304,8 +400,12 @@ impl Side for Second {
 
     fn translate(&self, image: &[u8], address: u64, limit: u32, question: &[u8]) -> Shown {
         let whole_question = Shown { from_image: 0, start: 0, length: question.len() as u64 };
-        let checked = self.accepted(image, address, limit);
-        if checked.is_err() && !(self.is(Wrong::ShownUnchecked) && block::id_at(image, address) == Some(b"##CC")) {
+        let shown = match self.accepted(image, address, limit) {
+            Ok(_) => true,
+            Err((18, _)) if self.is(Wrong::FewShown) => true,
+            Err(_) => self.is(Wrong::ShownUnchecked) && block::id_at(image, address) == Some(b"##CC"),
+        };
+        if !shown {
             return whole_question;
         }
         let Some(root) = self.read(image, address) else { return whole_question };
@@ -324,14 +424,9 @@ impl Side for Second {
     }
 
     fn parse(&self, image: &[u8], address: u64) -> Parsed {
-        let refused = |refusal| Parsed { refusal, address, block: Block::default() };
-        match block::id_at(image, address) {
-            None => refused(1),
-            Some(b"##CC") => match self.read(image, address) {
-                Some(found) => Parsed { refusal: 0, address: 0, block: found.record() },
-                None => refused(4),
-            },
-            Some(_) => refused(2),
+        match self.parsed(image, address) {
+            Ok(found) => Parsed { refusal: 0, address: 0, block: found.record() },
+            Err((refusal, address)) => Parsed { refusal, address, block: Block::default() },
         }
     }
 

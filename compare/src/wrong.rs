@@ -1,5 +1,5 @@
-// The wrong builds: each is the second reading with one rule of document 01 or of requests [2], [5] and [8] broken. WRONG-BUILDS.md is this list
-// in words.
+// The wrong builds: each is the second reading with one rule of document 01 or of requests [2], [5], [8] and [11] broken. WRONG-BUILDS.md is this
+// list in words.
 
 /// Who has to catch a wrong build: the crate; the proved build where the crate has no such rule or no say; the clock where all answers are right.
 #[derive(Clone, Copy, Debug, PartialEq, Eq)]
@@ -24,8 +24,8 @@ macro_rules! wrong_builds {
 wrong_builds! {
     RangeByFlag Crate "the range is read where the flag says so, whatever the block length",
     RangeOneByteMore Crate "the range needs one byte more of block length",
-    RangeByFourLinks Crate "the range test counts four links where the header says fewer",
-    FewerFixedLinks Crate "with a link count below 4 only so many fixed links are read",
+    ThreeLinksTaken Ours "a link count of 3 is taken",
+    FourLinksRefused Crate "a link count of 4 is refused with 18",
     ReferencesByCountField Crate "the stored reference count says how many references are read",
     ValuesEndWithBlock Crate "values past the block length are not read",
     FlagsSwapped Crate "the flags are read big-endian",
@@ -213,4 +213,28 @@ wrong_builds! {
     OlderNotWalked Ours "in 4.10 the check does not walk the references of type 11",
     OlderOfAnyWidth Ours "in 4.10 any width is taken",
     OlderTextToText Ours "in 4.10 type 10 is unknown too",
+    FewTakenByParsing Ours "parsing takes link counts below 4, which the check refuses",
+    FewTakenByCheck Ours "the check takes link counts below 4, which parsing refuses",
+    FewTakenBelowRoot Ours "the check tests the link count of the root alone",
+    FewTakenAtRoot Ours "the check tests the link counts below the root alone",
+    ShortBeforeFewInParsing Ours "parsing: refusal 4 comes before 18",
+    ShortBeforeFewAtRoot Ours "the check of the root: refusal 4 comes before 18",
+    ShortBeforeFew Ours "the check below the root: refusal 4 comes before 18",
+    FewBeforeLimitAtRoot Ours "the check of the root: refusal 18 comes before 3",
+    FewBeforeLimit Ours "the check below the root: refusal 18 comes before 3, as if such a block were no visit",
+    FewOnLastVisit Ours "a link count below 4 on the last visit that the limit allows is refused with 3",
+    DeepBeforeFew Ours "refusal 5 comes before 18",
+    FewBeforeIdInParsing Ours "parsing: refusal 18 comes before 2",
+    FewBeforeIdAtRoot Ours "the check of the root: refusal 18 comes before 2",
+    FewOfAnyId Crate "a reference to a text, whose link count is 0, is refused with 18",
+    FewSkipped Ours "a reference to a block with a link count below 4 is skipped",
+    FewByLowBits Ours "the link count is tested by its low 32 bits",
+    FewSigned Ours "the link count is tested as a signed number",
+    FewIsShort Ours "a link count below 4 is refused with 4",
+    FewWithoutAddress Ours "refusal 18 carries no address",
+    FewNamesHolder Ours "refusal 18 carries the address of the block whose reference leads there",
+    FewAppliedWithoutAddress Ours "an application that is refused with 18 carries no address",
+    FewWithVisits Ours "an application that is refused with 18 carries the visits begun",
+    FewTouchesOutput Ours "a call that is refused with 18 has written to the output",
+    FewShown Ours "the type 10 entry shows a text where the check refuses with 18",
 }

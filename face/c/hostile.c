@@ -228,6 +228,18 @@ static void linked_again(void) {
     expect_refused(mdf_check(built, built_len, at, UINT32_MAX), MDF_REFUSED_LIMIT, visited_after(UINT32_MAX, at, 5000));
 }
 
+/* Visits that are counted and not walked again use the limit up as the others do, before a block with few links too. */
+static void few_links_behind(void) {
+    begin("the check of 21 levels, each block twice to the next, and behind them a block with 3 links");
+    uint64_t few = small_block(0, 0, 0), second = row_of(2) - 80; /* the second block of the row stands before the first, with two references */
+    built[few + 16] = 3;
+    uint64_t at = block_of(0, second, second, few, 3, 0, 0), before = visits_of(2, 20);
+    expect_refused(mdf_check(built, built_len, at, (uint32_t)before - 1), MDF_REFUSED_LIMIT, visited_after(before - 1, second + 80, 2));
+    expect_refused(mdf_check(built, built_len, at, (uint32_t)before), MDF_REFUSED_LIMIT, few);
+    expect_refused(mdf_check(built, built_len, at, (uint32_t)before + 1), MDF_REFUSED_FEW_LINKS, few);
+    expect_refused(mdf_check(built, built_len, at, UINT32_MAX), MDF_REFUSED_FEW_LINKS, few);
+}
+
 int main(void) {
     signal(SIGALRM, stopped);
     built = malloc(CAPACITY);
@@ -246,6 +258,7 @@ int main(void) {
     text_to_text();
     number_to_text();
     linked_again();
+    few_links_behind();
     alarm(0);
     free(built);
     printf("hostile images: %d passed, %d failed\n", passed, failed);

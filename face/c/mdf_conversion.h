@@ -66,7 +66,7 @@
 extern "C" {
 #endif
 
-/* Why a call refused. 1 to 6 have the address of the block or link; every other field that does not apply is 0. */
+/* Why a call refused. 1 to 6 and 18 have the address of the block or link; every other field that does not apply is 0. */
 enum mdf_refusal {
     MDF_REFUSED_OUTSIDE = 1,        /* root address + 24 is beyond the image */
     MDF_REFUSED_NOT_CONVERSION = 2, /* the root's id is not ##CC */
@@ -78,7 +78,8 @@ enum mdf_refusal {
     MDF_REFUSED_ROOM = 8,           /* the text or block is longer than `out` */
     MDF_REFUSED_COUNT = 9,          /* more than 65,535 values to write */
     MDF_REFUSED_WIDTH = 11,         /* the width of a mode is 0 or above 64 */
-    MDF_REFUSED_EDITION = 16        /* the edition of a mode is neither 410 nor 420 */
+    MDF_REFUSED_EDITION = 16,       /* the edition of a mode is neither 410 nor 420 */
+    MDF_REFUSED_FEW_LINKS = 18      /* a ##CC block whose link count is below 4; the program repair_block writes it with 4 */
 };
 
 /* What an application answers. */
@@ -94,7 +95,7 @@ enum mdf_kind {
 typedef struct {
     uint32_t refusal; /* 0: accepted */
     uint32_t visits;  /* N, the blocks visited, if it is accepted */
-    uint64_t address; /* of a refusal from 1 to 6 */
+    uint64_t address; /* of a refusal from 1 to 6, or 18 */
 } mdf_checked;
 
 /* The answer of an application. Fields that do not apply are 0. */
@@ -103,11 +104,11 @@ typedef struct {
     uint32_t kind;    /* a number of enum mdf_kind */
     double number;    /* of kind MDF_KIND_NUMBER */
     uint64_t length;  /* bytes of the text, of kind MDF_KIND_TEXT */
-    uint64_t address; /* of a refusal from 1 to 6 */
-    uint32_t checked; /* N, the visits of the check; 0 where refused with 1 to 6, 11 or 16 */
-    uint32_t applied; /* M, the visits of applying; 0 where refused with 1 to 6, 11 or 16 */
+    uint64_t address; /* of a refusal from 1 to 6, or 18 */
+    uint32_t checked; /* N, the visits of the check; 0 where refused with 1 to 6, 11, 16 or 18 */
+    uint32_t applied; /* M, the visits of applying; 0 where refused with 1 to 6, 11, 16 or 18 */
     /* 1: a malformed table was consulted, up to the answer or the refusal: a range to text (type 8) was applied to a number, and has no, one or an
-     * odd number of values. Its first reference then decides, whatever the number is. Else 0, also where refused with 1 to 6, 11 or 16. */
+     * odd number of values. Its first reference then decides, whatever the number is. Else 0, also where refused with 1 to 6, 11, 16 or 18. */
     uint32_t malformed;
 } mdf_applied;
 
@@ -133,12 +134,12 @@ typedef struct {
 /* The fields of a ##CC block. A link is an address, and 0 leads nowhere. */
 typedef struct {
     uint64_t length;                         /* block length, as written */
-    uint64_t links;                          /* link count, as written */
+    uint64_t links;                          /* link count, as written: at least 4 out of parsing */
     uint64_t name, unit, comment, inverse;   /* the four fixed links */
     double range_min, range_max;             /* 0 where there is no range */
     uint64_t min_word, max_word;             /* the 64 bits of the range as they stand in the image: a NaN keeps its own here */
     uint16_t flags;
-    uint16_t ref_count;                      /* the reference count field; the block has links - 4 references, none below 4 links */
+    uint16_t ref_count;                      /* the reference count field; the block has links - 4 references */
     uint16_t val_count;                      /* how many values the block has */
     uint8_t kind;                            /* type: 0 identity, 1 linear, 2 rational, 3 formula, 4 table interpolated, 5 table nearest,
                                                 6 range to value, 7 value to text, 8 range to text, 9 text to value, 10 text to text,
@@ -169,12 +170,13 @@ typedef struct {
 } mdf_written;
 
 /* Walks the conversion at `address` and every conversion under it, references in order, and begins at most `limit` visits.
- * Answers how many blocks it visited, a block that is reached twice counting twice; or the first refusal met, of 1 to 6. */
+ * Answers how many blocks it visited, a block that is reached twice counting twice; or the first refusal met, of 1 to 6 and 18: at the root in the
+ * order 1, 2, 3, 18, 4, at a nested block 3, 18, 4, 5. A link to a block on the current path is 6, and that block is not begun again. */
 mdf_checked mdf_check(const uint8_t *image, size_t image_len, uint64_t address, uint32_t limit);
 
 /* Checks as mdf_check does, then applies the conversion at `address` to an unsigned whole number.
  * Answers a number, a text, unchanged or unknown, with the visits of both walks and whether a malformed table was consulted; or a refusal of 1
- * to 8. Refusals 7 and 8 have the visits too, and say the same of tables.
+ * to 8 or 18. Refusals 7 and 8 have the visits too, and say the same of tables.
  * Afterwards a text stands in `out` from byte 0 on and the bytes behind it are as they were. After any other answer, and after every refusal,
  * all of `out` is as it was. */
 mdf_applied mdf_apply_unsigned(const uint8_t *image, size_t image_len, uint64_t address, uint32_t limit, uint64_t value, uint8_t *out,
@@ -222,14 +224,14 @@ mdf_applied mdf_apply_mode_other(const uint8_t *image, size_t image_len, uint64_
  * question. Answers the question itself where the check refuses, the root has another type, or no text is chosen. Names no refusal. */
 mdf_shown mdf_translate(const uint8_t *image, size_t image_len, uint64_t address, uint32_t limit, const uint8_t *question, size_t question_len);
 
-/* Reads the fields of the one block at `address`. Answers them, or refusal 1, 2 or 4.
+/* Reads the fields of the one block at `address`. Answers them, or refusal 1, 2, 18 or 4, tested in that order.
  * The parsed block lies whole in the image, all numbers little-endian and unaligned; mdf_reference and mdf_value_word read these by place:
- * - its references, 8 bytes each, from address + 56 on: links - 4 of them, none where links is below 4;
+ * - its references, 8 bytes each, from address + 56 on: links - 4 of them;
  * - its values, 8 bytes each, val_count of them, from address + 64 + 8 * references on, and 16 more where there is a range. */
 mdf_parsed mdf_parse(const uint8_t *image, size_t image_len, uint64_t address);
 
 /* Reads one reference of the block at `address`, the first of which has index 0. Answers its word, which is a link; or that the block has no such
- * reference, for every index from its number of references on; or refusal 1, 2 or 4, as mdf_parse does. */
+ * reference, for every index from its number of references on; or refusal 1, 2, 18 or 4, as mdf_parse does. */
 mdf_word mdf_reference(const uint8_t *image, size_t image_len, uint64_t address, uint64_t index);
 
 /* As mdf_reference, for one of the block's val_count values. Its word has the 64 bits of a double, or of a mask in bit groups. */

@@ -1,4 +1,4 @@
-/* Calls each function of mdf_conversion.h: every line of document 01's "Cases", every refusal from 1 to 9, 11 and 16.
+/* Calls each function of mdf_conversion.h: every line of document 01's "Cases", every refusal from 1 to 9, 11, 16 and 18.
  *
  * The images are built here byte by byte. Each call gets its image in a block of the heap of exactly its length, so that valgrind sees a read past
  * its end, and an output buffer between guard bytes. After each call every byte that should be as it was is compared. */
@@ -981,26 +981,228 @@ static void place_cases(void) {
     reads_all("by place: the values stand behind the range, the count of links decides", 0);
 }
 
-/* With a link count below 4 the four fixed links are there all the same, and no reference is. */
+/* ---- request [11]: fewer than four links ---- */
+
+#define FEWEST 4 /* links that a block can have */
+
+/* Sets the link count in a block's header, and nothing else. */
+static void set_links(uint64_t address, uint64_t links) {
+    size_t end = built_len;
+    built_len = address + 16;
+    put(links, 8);
+    built_len = end;
+}
+
+/* Refused by what reads the block alone, and by what checks it first: the type 10 entry then shows the question. */
+static void is_refused_alone(const char *name, uint64_t address, uint32_t refusal) {
+    parse_is_refused(name, address, refusal);
+    reading_is_refused(name, address, refusal);
+    is_unsound(name, address, LIMIT, refusal, address);
+    translates(name, address, "E1", 0, 2);
+}
+
+/* A block of each type, the same bytes but for the link count. */
 static void few_links_cases(void) {
-    static const uint64_t words[] = {5, 6, 7};
-    for (uint8_t links = 0; links < 4; links++) {
+    for (uint8_t kind = 0; kind <= 12; kind++) {
         begin();
-        plan plain = {.kind = 1, .words = words, .word_count = 3, .length = 64};
-        uint64_t address = block(plain);
-        built[address + 16] = links;
-        ends_at("by place: fewer than 4 links", mdf_reference, address, 0);
-        finds("by place: fewer than 4 links, the first value", mdf_value_word, address, 0, 5);
-        finds("by place: fewer than 4 links, the last value", mdf_value_word, address, 2, 7);
-        ends_at("by place: fewer than 4 links, no more values", mdf_value_word, address, 3);
-        plan with_range = {.kind = 1, .words = words, .word_count = 3};
-        address = block(with_range);
-        built[address + 16] = links;
-        built[address + 62] = 1; /* one value, behind two words of a range */
-        ends_at("by place: fewer than 4 links and a range", mdf_reference, address, 0);
-        finds("by place: fewer than 4 links, a value behind the range", mdf_value_word, address, 0, 7);
-        ends_at("by place: fewer than 4 links, one value behind the range", mdf_value_word, address, 1);
+        uint64_t address = of_numbers(kind, pairs, 6);
+        for (uint64_t links = 0; links < FEWEST; links++) {
+            set_links(address, links);
+            is_refused_alone("18 FewLinks: 0 to 3 links, whatever the type", address, MDF_REFUSED_FEW_LINKS);
+        }
+        set_links(address, FEWEST);
+        is_accepted("4 links are taken", address, LIMIT, 1);
+        ends_at("4 links: no reference", mdf_reference, address, 0);
+        finds("4 links: the last value", mdf_value_word, address, 5, bits(60));
     }
+}
+
+/* All 64 bits of the count decide, without a sign. */
+static void enough_links_cases(void) {
+    static const uint64_t nil = 0, top = UINT64_C(1) << 63;
+    static const uint64_t large[] = {256, 259, 65536, 65539, UINT64_C(1) << 32, (UINT64_C(1) << 32) + 3, top, top + 3, UINT64_MAX - 3, UINT64_MAX};
+    begin();
+    uint64_t four = of_numbers(1, zero_and_eighth, 2), five = of_values(1, &nil, 1, zero_and_eighth, 2);
+    gives_number("4 links: applied", four, of_signed(-3), -0.375);
+    gives_number("5 links: applied", five, of_signed(-3), -0.375);
+    finds("5 links: one reference", mdf_reference, five, 0, nil);
+    ends_at("5 links: no more references", mdf_reference, five, 1);
+    finds("5 links: the last value", mdf_value_word, five, 1, bits(0.125));
+    for (size_t i = 0; i < COUNT_OF(large); i++) {
+        set_links(four, large[i]);
+        is_refused_alone("4 Short: a large link count, whatever its low bytes", four, MDF_REFUSED_SHORT);
+    }
+}
+
+/* Below a root of each type, and two levels down: the check walks every reference, whatever the types are. */
+static void few_links_below_cases(void) {
+    static const uint8_t kinds[] = {0, 1, 3, 7, 8, 9, 10, 11, 42};
+    for (size_t i = 0; i < COUNT_OF(kinds); i++) {
+        begin();
+        uint64_t leaf = of_numbers(1, zero_and_eighth, 2);
+        uint64_t above = of_refs(kinds[i], &leaf, 1), top = of_refs(kinds[i], &above, 1);
+        for (uint64_t links = 0; links < FEWEST; links++) {
+            set_links(leaf, links);
+            is_unsound("18 FewLinks: in a nested block", above, LIMIT, MDF_REFUSED_FEW_LINKS, leaf);
+            is_unsound("18 FewLinks: two levels down", top, LIMIT, MDF_REFUSED_FEW_LINKS, leaf);
+        }
+        set_links(leaf, FEWEST);
+        is_accepted("4 links in a nested block", above, LIMIT, 2);
+        is_accepted("4 links two levels down", top, LIMIT, 3);
+    }
+}
+
+/* A block that applying would not reach refuses all the same. */
+static void few_links_before_applying_cases(void) {
+    static const double key = 1;
+    begin();
+    uint64_t words = text("on"), leaf = of_refs(0, NULL, 0), formula = of_refs(3, &leaf, 1);
+    uint64_t shown[] = {words, leaf}, stopped[] = {formula, leaf};
+    uint64_t by_text = of_values(7, shown, 2, &key, 1), by_formula = of_values(7, stopped, 2, &key, 1);
+    gives_text("a text beside a block with 4 links", by_text, of_unsigned(1), "on", 2, 1);
+    is_refused("no room beside a block with 4 links", by_text, 1, of_unsigned(1), MDF_REFUSED_ROOM, 2, 1);
+    is_refused("a formula beside a block with 4 links", by_formula, ROOM, of_unsigned(1), MDF_REFUSED_FORMULA, 4, 2);
+    set_links(leaf, 3);
+    is_unsound("18 where a text would be chosen", by_text, LIMIT, MDF_REFUSED_FEW_LINKS, leaf);
+    is_unsound("18 before 7", by_formula, LIMIT, MDF_REFUSED_FEW_LINKS, leaf);
+    const mdf_applied refused = {.refusal = MDF_REFUSED_FEW_LINKS, .kind = MDF_KIND_REFUSED, .address = leaf};
+    applies_within("18 before 8", by_text, LIMIT, 1, of_unsigned(1), refused, "");
+    applies_within("18 before 7 and 8", by_formula, LIMIT, 0, of_unsigned(1), refused, "");
+}
+
+/* The type 10 entry names no refusal: it shows the question. */
+static void few_links_translation_cases(void) {
+    begin();
+    uint64_t e1 = text("E1"), low = text("oil pressure low"), leaf = of_refs(1, NULL, 0), middle = of_refs(7, &leaf, 1);
+    uint64_t near[] = {e1, low, leaf}, far[] = {e1, low, middle};
+    uint64_t above = of_refs(10, near, 3), top = of_refs(10, far, 3);
+    translates("translate above a block with 4 links", above, "E1", low + 24, 16);
+    translates("translate two levels above a block with 4 links", top, "E1", low + 24, 16);
+    for (uint64_t links = 0; links < FEWEST; links++) {
+        set_links(leaf, links);
+        translates("translate above a block with fewer than 4 links", above, "E1", 0, 2);
+        translates("translate two levels above a block with fewer than 4 links", top, "E1", 0, 2);
+        is_unsound("18 two levels below a text to text", top, LIMIT, MDF_REFUSED_FEW_LINKS, leaf);
+    }
+    set_links(leaf, FEWEST);
+    translates("translate with 7 links", above, "E1", low + 24, 16);
+    set_links(above, 3);
+    translates("translate with fewer than 4 links", above, "E1", 0, 2);
+}
+
+/* A visit is begun before the link count is looked at. */
+static void few_links_limit_cases(void) {
+    begin();
+    uint64_t leaf = of_numbers(1, zero_and_eighth, 2), few = of_numbers(1, zero_and_eighth, 2);
+    uint64_t middle = of_refs(7, &few, 1), root = of_refs(7, &middle, 1);
+    set_links(few, 3);
+    is_unsound("limit 0, the root has few links: 3 Limit", few, 0, MDF_REFUSED_LIMIT, few);
+    is_unsound("limit 1, the root has few links: 18", few, 1, MDF_REFUSED_FEW_LINKS, few);
+    is_unsound("limit used up before a nested block: 3 Limit", middle, 1, MDF_REFUSED_LIMIT, few);
+    is_unsound("one visit more: 18", middle, 2, MDF_REFUSED_FEW_LINKS, few);
+    is_unsound("limit used up two levels down: 3 Limit", root, 2, MDF_REFUSED_LIMIT, few);
+    is_unsound("one visit more two levels down: 18", root, 3, MDF_REFUSED_FEW_LINKS, few);
+    is_unsound("limit used up one block before: 3 Limit there", root, 1, MDF_REFUSED_LIMIT, middle);
+    uint64_t twice[] = {leaf, leaf};
+    uint64_t pair = of_refs(8, twice, 2);
+    uint64_t behind[] = {pair, pair, few};
+    uint64_t top = of_refs(8, behind, 3); /* 1 + 3 + 3 visits before the block with few links */
+    is_unsound("limit 6, behind two pairs: 3 Limit in the second", top, 6, MDF_REFUSED_LIMIT, leaf);
+    is_unsound("limit 7, behind two pairs: 3 Limit", top, 7, MDF_REFUSED_LIMIT, few);
+    is_unsound("limit 8, behind two pairs: 18", top, 8, MDF_REFUSED_FEW_LINKS, few);
+    is_unsound("the largest limit, behind two pairs: 18", top, UINT32_MAX, MDF_REFUSED_FEW_LINKS, few);
+}
+
+static void few_links_depth_cases(void) {
+    uint64_t last, root = row(21, 1, &last);
+    for (uint64_t links = 0; links < FEWEST; links++) {
+        set_links(last, links);
+        is_unsound("depth 20, few links: 18", root, LIMIT, MDF_REFUSED_FEW_LINKS, last);
+    }
+    is_unsound("depth 20, few links, the limit used up: 3 Limit", root, 20, MDF_REFUSED_LIMIT, last);
+    is_unsound("depth 20, few links, one visit more: 18", root, 21, MDF_REFUSED_FEW_LINKS, last);
+    root = row(22, 1, &last);
+    is_unsound("depth 21, 4 links: 5 Deep", root, LIMIT, MDF_REFUSED_DEEP, last);
+    for (uint64_t links = 0; links < FEWEST; links++) {
+        set_links(last, links);
+        is_unsound("depth 21, few links: 18 before 5", root, LIMIT, MDF_REFUSED_FEW_LINKS, last);
+    }
+    is_unsound("depth 21, few links, the limit used up: 3 Limit", root, 21, MDF_REFUSED_LIMIT, last);
+    is_unsound("depth 21, few links, one visit more: 18", root, 22, MDF_REFUSED_FEW_LINKS, last);
+    built[last + 63] = 0xff; /* more values than the image holds */
+    is_unsound("depth 21, few links and short: 18 before 4 and 5", root, LIMIT, MDF_REFUSED_FEW_LINKS, last);
+    set_links(last, FEWEST);
+    is_unsound("depth 21, 4 links and short: 4 before 5", root, LIMIT, MDF_REFUSED_SHORT, last);
+}
+
+/* The last block of an image that ends inside it, behind the block that leads to it. */
+static void few_links_short_cases(void) {
+    static const size_t bytes[] = {24, 25, 31, 32, 55, 56, 62, 63, 64, 72, 79};
+    begin();
+    uint64_t cut = built_len + 72, root = of_refs(7, &cut, 1);
+    of_numbers(1, zero_and_eighth, 2);
+    for (size_t i = 0; i < COUNT_OF(bytes); i++) {
+        built_len = cut + bytes[i];
+        for (uint64_t links = 0; links < FEWEST; links++) {
+            set_links(cut, links);
+            is_refused_alone("few links and short: 18 before 4", cut, MDF_REFUSED_FEW_LINKS);
+            is_unsound("few links and short, nested: 18 before 4", root, LIMIT, MDF_REFUSED_FEW_LINKS, cut);
+        }
+        set_links(cut, FEWEST);
+        is_refused_alone("4 links and short: 4 Short", cut, MDF_REFUSED_SHORT);
+        is_unsound("4 links and short, nested: 4 Short", root, LIMIT, MDF_REFUSED_SHORT, cut);
+    }
+    set_links(cut, 3);
+    built_len = cut + 23;
+    is_refused_alone("few links, the header passes the image: 1 Outside", cut, MDF_REFUSED_OUTSIDE);
+    is_accepted("few links, the header passes the image, nested: no visit", root, LIMIT, 1);
+}
+
+/* Only a ##CC block that the check walks, or that is asked for, needs four links. */
+static void few_links_elsewhere_cases(void) {
+    static const uint64_t mask = 3;
+    begin();
+    uint64_t stranger = of_refs(1, NULL, 0), root = of_refs(7, &stranger, 1);
+    built[stranger + 3] = 'D';
+    set_links(stranger, 3);
+    is_refused_alone("another id and few links: 2 NotConversion", stranger, MDF_REFUSED_NOT_CONVERSION);
+    is_unsound("another id and few links, limit 0: 2 NotConversion", stranger, 0, MDF_REFUSED_NOT_CONVERSION, stranger);
+    is_accepted("another id and few links, nested: no visit", root, LIMIT, 1);
+    uint64_t few = of_refs(7, NULL, 0), on = text("on");
+    set_links(few, 3);
+    plan named = {.kind = 8, .name = few, .refs = &on, .ref_count = 1};
+    uint64_t shown = block(named), groups = of_words(11, &shown, 1, &mask, 1);
+    for (uint64_t place = shown + 32; place < shown + 56; place += 8) memcpy(built + place, built + shown + 24, 8); /* unit, comment, inverse */
+    is_accepted("few links behind the fixed links: not walked", groups, LIMIT, 2);
+    applies("few links behind the name link: no name", groups, of_unsigned(1), consulted(a_text("on", 2, 2)), "on");
+}
+
+/* Of two faults the first in walking order is given. */
+static void few_links_order_cases(void) {
+    uint64_t deepest, chain = row(21, 1, &deepest); /* one level too many below another block */
+    uint64_t few = of_refs(7, NULL, 0), second = of_refs(7, NULL, 0), sound = of_refs(7, NULL, 0), words = text("on");
+    plan damaged = {.kind = 1, .links = UINT64_C(1) << 60};
+    uint64_t cut = block(damaged), inner = of_refs(7, &few, 1);
+    set_links(few, 3);
+    set_links(second, 0);
+    const uint64_t faults[] = {cut, chain, second}, places[] = {cut, deepest, second};
+    static const uint32_t refusals[] = {MDF_REFUSED_SHORT, MDF_REFUSED_DEEP, MDF_REFUSED_FEW_LINKS};
+    for (size_t i = 0; i < COUNT_OF(faults); i++) {
+        uint64_t before[] = {faults[i], inner}, behind[] = {inner, faults[i]};
+        is_unsound("a fault before a block with few links: met first", of_refs(7, before, 2), LIMIT, refusals[i], places[i]);
+        is_unsound("a fault behind a block with few links: not met", of_refs(7, behind, 2), LIMIT, MDF_REFUSED_FEW_LINKS, few);
+    }
+    uint64_t own = built_len, loop_first[] = {own, inner};
+    is_unsound("a loop before a block with few links: 6 Loop", of_refs(7, loop_first, 2), LIMIT, MDF_REFUSED_LOOP, own);
+    own = built_len;
+    uint64_t loop_last[] = {inner, own}, harmless[] = {0, words, UINT64_MAX, sound, sound, few};
+    is_unsound("a loop behind a block with few links: 18", of_refs(7, loop_last, 2), LIMIT, MDF_REFUSED_FEW_LINKS, few);
+    is_unsound("no fault before a block with few links: 18", of_refs(7, harmless, 6), LIMIT, MDF_REFUSED_FEW_LINKS, few);
+    own = built_len;
+    of_refs(7, &own, 1);
+    is_unsound("a link to itself, 5 links: 6 Loop", own, LIMIT, MDF_REFUSED_LOOP, own);
+    set_links(own, 3);
+    is_unsound("a link to itself, 3 links: 18, and no reference is looked at", own, LIMIT, MDF_REFUSED_FEW_LINKS, own);
 }
 
 int main(void) {
@@ -1034,6 +1236,15 @@ int main(void) {
     place_refusals();
     place_cases();
     few_links_cases();
+    enough_links_cases();
+    few_links_below_cases();
+    few_links_before_applying_cases();
+    few_links_translation_cases();
+    few_links_limit_cases();
+    few_links_depth_cases();
+    few_links_short_cases();
+    few_links_elsewhere_cases();
+    few_links_order_cases();
     printf("C face: %d cases passed, %d failed\n", passed, failed);
     return failed ? 1 : 0;
 }

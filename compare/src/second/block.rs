@@ -36,6 +36,11 @@ pub fn id_at(image: &[u8], address: u64) -> Option<&[u8; 4]> {
     image[at..at + 4].try_into().ok()
 }
 
+/// The link count at an address whose header the image holds, as written.
+pub fn links_at(image: &[u8], address: u64) -> u64 {
+    word(image, address as usize + 16)
+}
+
 /// Where the text block ends whose text starts here.
 pub fn text_block_end(image: &[u8], from: usize) -> usize {
     from - 24 + word(image, from - 16) as usize
@@ -48,13 +53,13 @@ pub fn spells_nan(word: u64) -> bool {
 pub const ONE_NAN: u64 = 0x7ff8_0000_0000_0000;
 
 impl Second {
-    /// The ##CC block at an address that holds a header with that id; none if the image ends inside it.
+    /// The ##CC block at an address that holds a header with that id; none if the image ends inside it. With a link count below 4, which parsing and
+    /// the check refuse, four links are read: so did document 01 before request [11], and so do wrong builds.
     pub fn read(&self, image: &[u8], address: u64) -> Option<Found> {
         let a = address as usize;
-        let (length, links) = (word(image, a + 8), word(image, a + 16));
+        let (length, links) = (word(image, a + 8), links_at(image, address));
         let counted = if self.is(Wrong::HugeLinksWrap) { links % (1 << 61) } else { links };
-        let read = if self.is(Wrong::FewerFixedLinks) { counted } else { counted.max(4) };
-        let fields = address as u128 + 24 + 8 * read as u128;
+        let fields = address as u128 + 24 + 8 * counted.max(4) as u128;
         if fields + 8 > image.len() as u128 {
             return None;
         }
@@ -66,7 +71,7 @@ impl Second {
             return None;
         }
         let words = |from: usize, n: usize| (0..n).map(|i| word(image, from + 8 * i)).collect::<Vec<u64>>();
-        let fixed = |i: usize| if (i as u64) < read { word(image, a + 24 + 8 * i) } else { 0 };
+        let fixed = |i: usize| word(image, a + 24 + 8 * i);
         let mut found = Found {
             length,
             links,
@@ -85,7 +90,6 @@ impl Second {
     }
 
     fn has_range(&self, length: u64, links: u64, val_count: u16, flags: u16) -> bool {
-        let links = if self.is(Wrong::RangeByFourLinks) { links.max(4) } else { links };
         let least = 24 + 8 * links as u128 + 8 + 8 * val_count as u128 + 16;
         match self.wrong {
             Wrong::RangeByFlag => flags & 2 != 0,

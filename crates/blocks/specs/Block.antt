@@ -1,8 +1,9 @@
--- The bytes of a ##CC block (document 01, "Bytes of a block"), in the document's order. Assumes nothing: these are definitions.
+-- The bytes of a ##CC block (document 01, "Bytes of a block"), in the document's order, and the link counts that parsing refuses (request [11]).
+-- Assumes nothing: these are definitions.
 use Prim.Native.Nat.{ℕ, _+_, _-_, _*_}
-use mathlib.Core.Bool.{Bool, true, false, cond}
+use mathlib.Core.Bool.{Bool, true, false, _&&_, cond}
 use mathlib.Core.List.{List}
-use lib.Dec.{leb}
+use lib.Dec.{leb, ltb}
 use lib.ListN as ListN
 use lib.Ieee.{binary64, ofBits}
 use Rattle.words.specs.Words.{word16, word64, valueAt}
@@ -13,7 +14,7 @@ use Rattle.blocks.specs.declared.Range.{Range}
 use Rattle.blocks.specs.declared.Block.{Block}
 use Rattle.blocks.specs.declared.Parsed.{Parsed}
 use Rattle.blocks.specs.declared.Parsed.the-variants.{Whole, Refused}
-use Rattle.common.specs.declared.refusal.Refusal.the-variants.{Outside, NotConversion, Short}
+use Rattle.common.specs.declared.refusal.Refusal.the-variants.{Outside, NotConversion, Short, FewLinks}
 
 -- four fixed links: name, unit, comment, inverse
 unfoldable pub fixedAt : List ℕ → ℕ → Fixed
@@ -106,13 +107,26 @@ blockAt img a =
     (a + 56)
     (valuesPlace img a)
 
--- a ##CC block whose header lies in the image: whole, or Short where the image ends inside it. Sums are exact, so a huge link count is Short
+-- a ##CC block whose header lies in the image, whatever its link count: whole, or Short where the image ends inside it. Sums are exact, so a huge
+-- link count is Short
 unfoldable pub opened : List ℕ → ℕ → Parsed
 opened img a = cond (leb (blockEnd img a) (ListN.length img)) (Whole (blockAt img a)) (Refused (Short a))
 
--- parsing one block gives 1, 2 or 4
-unfoldable pub parsed : List ℕ → ℕ → Parsed
-parsed img a =
+-- document 01's parsing of one block, whatever its link count, gives 1, 2 or 4: a block that is repaired is read so
+unfoldable pub parsedForRepair : List ℕ → ℕ → Parsed
+parsedForRepair img a =
     cond (inside img a)
     (cond (isConversion img a) (opened img a) (Refused (NotConversion a)))
     (Refused (Outside a))
+
+-- a link count below 4
+unfoldable pub fewLinks : List ℕ → ℕ → Bool
+fewLinks img a = ltb (word64 img (a + 16)) 4
+
+-- a ##CC block with such a count, which no tool writes now
+unfoldable pub retired : List ℕ → ℕ → Bool
+retired img a = inside img a && (isConversion img a && fewLinks img a)
+
+-- parsing one block gives 1, 2, 18 or 4: document 01's parsing, with the test for 18 before it
+unfoldable pub parsed : List ℕ → ℕ → Parsed
+parsed img a = cond (retired img a) (Refused (FewLinks a)) (parsedForRepair img a)

@@ -12,7 +12,7 @@ use words::Cursor;
 ghost use mathlib.Core.Path.{_≡_};
 ghost use Prim.Native.Nat.{_+_, _-_, _*_, _≤_, _<_, _^_};
 ghost use lib.ListN as ListN;
-ghost use Rattle.blocks.specs.Block.{fixedAt, fieldsAt, rangeAt, rangeSize, hasRange, blockAt, opened, parsed};
+ghost use Rattle.blocks.specs.Block.{fixedAt, fieldsAt, rangeAt, rangeSize, hasRange, blockAt, opened, parsedForRepair, fewLinks, retired, parsed};
 ghost use Rattle.blocks.specs.View.{seen};
 ghost use Rattle.blocks.specs.declared.view.Seen.the-variants.{Open};
 ghost use Rattle.blocks.specs.Make.{emptyOf, withLinks, withDetails, withRange};
@@ -264,7 +264,7 @@ impl Block {
         }
     }
 
-    // The block at `at`, whose header lies in the image and has the id ##CC: whole, or Short.
+    // The block at `at`, whose header lies in the image and has the id ##CC, whatever its link count: whole, or Short.
     pub fn read(image: &[u8], at: usize) -> Parsed
         requires { ⌜ at + 24 ≤ ListN.length (now image) ⌝ }
         ensures { λ r. ⌜ r ≡ opened (now (image .entry)) at ⌝ }
@@ -275,9 +275,9 @@ impl Block {
         }
     }
 
-    // The block at an address of an image.
-    pub fn parse(image: &[u8], address: u64) -> Parsed
-        ensures { λ r. ⌜ r ≡ parsed (now (image .entry)) address ⌝ }
+    // The block at an address of an image, whatever its link count, as document 01 reads it: for the repair.
+    pub fn parse_for_repair(image: &[u8], address: u64) -> Parsed
+        ensures { λ r. ⌜ r ≡ parsedForRepair (now (image .entry)) address ⌝ }
     {
         if Header::is_inside(image, address) {
             let at = address as usize;
@@ -288,6 +288,38 @@ impl Block {
             }
         } else {
             Parsed::Refused(Refusal::Outside(address))
+        }
+    }
+
+    // Whether the block at `at`, whose header lies in the image, has under four links.
+    pub fn has_few_links(image: &[u8], at: usize) -> bool
+        requires { ⌜ at + 24 ≤ ListN.length (now image) ⌝ }
+        ensures { λ r. ⌜ r ≡ fewLinks (now (image .entry)) at ⌝ }
+    {
+        words::u64_at(image, at + 16) < Block::FIXED
+    }
+
+    // Whether a ##CC block with under four links stands at an address.
+    fn is_retired(image: &[u8], address: u64) -> bool
+        ensures { λ r. ⌜ r ≡ retired (now (image .entry)) address ⌝ }
+    {
+        if Header::is_inside(image, address) {
+            let at = address as usize;
+            if Header::is_conversion(image, at) {
+                return Block::has_few_links(image, at);
+            }
+        }
+        false
+    }
+
+    // The block at an address of an image.
+    pub fn parse(image: &[u8], address: u64) -> Parsed
+        ensures { λ r. ⌜ r ≡ parsed (now (image .entry)) address ⌝ }
+    {
+        if Block::is_retired(image, address) {
+            Parsed::Refused(Refusal::FewLinks(address))
+        } else {
+            Block::parse_for_repair(image, address)
         }
     }
 

@@ -3,7 +3,7 @@
 ghost use mathlib.Core.Path.{_≡_};
 ghost use Rattle.common.specs.Refusal.{numberOf, addressOf};
 
-// 1 to 6 carry the address of the block or the link.
+// 1 to 6 and 18 carry the address of the block or the link.
 pub enum Refusal {
     Outside(u64),
     NotConversion(u64),
@@ -16,6 +16,7 @@ pub enum Refusal {
     Count,
     Width,
     Edition,
+    FewLinks(u64),
 }
 
 // A number of 64 bits, where there is one.
@@ -41,6 +42,7 @@ impl Refusal {
             Refusal::Count => 9,
             Refusal::Width => 11,
             Refusal::Edition => 16,
+            Refusal::FewLinks(_) => 18,
         }
     }
 
@@ -60,6 +62,7 @@ impl Refusal {
             Refusal::Count => Word::NoWord,
             Refusal::Width => Word::NoWord,
             Refusal::Edition => Word::NoWord,
+            Refusal::FewLinks(a) => Word::Bits(a),
         }
     }
 }

@@ -196,8 +196,8 @@ unfolding applied Sound someMalformed
 consulted-iff zero mode img t a v s = absurd s
 consulted-iff (suc d) mode img t a v s =
     let b = blockAt img a in
-    one-block (applied d mode img t) img b (λ r w h. consulted-iff d mode img t r w (below d img b (s .1) r h)) v (stepOf mode img t a v)
-    (begins mode img t b v a (s .0))
+    one-block (applied d mode img t) img b (λ r w h. consulted-iff d mode img t r w (below d img b (s .2) r h)) v (stepOf mode img t a v)
+    (begins mode img t b v a (s .1))
 
 -- ---- a value that is no number begins the root alone, whatever stands there
 module _ (nested : ℕ → Value → Ap) (mode : Mode) (img t : List ℕ) (v : Value) (none : taken v ≡ took.NoNumber) where

@@ -6,11 +6,11 @@ use lib.Ieee.{ofBits, toBits, ofInt, add, sub, mul, div, le, lt, eq}
 use Rattle.common.specs.Header.{inside, isConversion, isTextBlock}
 use Rattle.common.specs.Types.{typeOf}
 use Rattle.common.specs.Text.{untilZero, isWholeText, runAt, runOf, textBytes}
-use Rattle.blocks.specs.Block.{fixedAt, fieldsAt, refCount, fieldsPlace, valCount, isRanged, valuesPlace, blockEnd, blockAt, opened, parsed}
+use Rattle.blocks.specs.Block.{fixedAt, fieldsAt, refCount, fieldsPlace, valCount, isRanged, valuesPlace, blockEnd, blockAt, opened, parsedForRepair, fewLinks, retired, parsed}
 use Rattle.blocks.specs.Place.{wordIn, references}
 use Rattle.blocks.specs.View.{seen, referenceIn, valueWordIn, valueIn}
 use Rattle.tree.specs.Images.{bare, twoLinks}
-use Rattle.tree.specs.Walk.{on, classed, walkLinks, walk, answer, checked}
+use Rattle.tree.specs.Walk.{on, classed, walkLinks, entered, walk, answer, checked}
 use Rattle.leads.specs.Lead.{nestedAt, leadOf, leadAt}
 use Rattle.rules.specs.Values.{values}
 use Rattle.rules.specs.Linear.{linear, rational}
@@ -24,5 +24,5 @@ use Rattle.conversion.specs.Entry.{answerIn, outputAfter, settled, apply
 use Rattle.conversion.specs.Cases.{Case, blockOf, block, tx, cases, answered}
 
 pub p-cases : map (λ (c : Case). answered (c .asked)) cases ≡ map (λ (c : Case). c .wanted) cases
-unfolding cases block blockOf tx links bare twoLinks applying settled answerIn outputAfter applied bitGroups groups joined bar nameAt label stepOf lastReference keySearch firstKey rangeSearch firstRange rangeValue firstTriple holds table scan between linear rational values leadAt leadOf nestedAt checked answer walk walkLinks classed on references valueIn valueWordIn referenceIn wordIn seen parsed opened blockAt blockEnd valuesPlace isRanged valCount fieldsPlace refCount fieldsAt fixedAt runOf runAt isWholeText textBytes untilZero typeOf inside isConversion isTextBlock words valueAt word64 word32 word16 ofBits toBits ofInt add sub mul div le lt eq
+unfolding cases block blockOf tx links bare twoLinks applying settled answerIn outputAfter applied bitGroups groups joined bar nameAt label stepOf lastReference keySearch firstKey rangeSearch firstRange rangeValue firstTriple holds table scan between linear rational values leadAt leadOf nestedAt checked answer walk entered walkLinks classed on references valueIn valueWordIn referenceIn wordIn seen parsed retired fewLinks parsedForRepair opened blockAt blockEnd valuesPlace isRanged valCount fieldsPlace refCount fieldsAt fixedAt runOf runAt isWholeText textBytes untilZero typeOf inside isConversion isTextBlock words valueAt word64 word32 word16 ofBits toBits ofInt add sub mul div le lt eq
 p-cases = refl

@@ -46,10 +46,10 @@ unfolding applied size Sound
 few-fine zero mode img t a v s = absurd s
 few-fine (suc d) mode img t a v s =
     let b = blockAt img a in
-    let sound = below d img b (s .1) in
+    let sound = below d img b (s .2) in
     let one = one-block (applied d mode img t) img b (size d img) (λ r w h. few-fine d mode img t r w (sound r h)) (mode .edition) v
     (stepOf mode img t a v)
-    (step-follows mode img t b v a (s .0)) in
+    (step-follows mode img t b v a (s .1)) in
     (omega (arith, one .0), one .1)
 
 -- some block is begun, the one applied; no more than the tree has; and no answer is that a block cannot be opened
@@ -103,8 +103,8 @@ shallow zero mode img t a v s none = absurd s
 shallow (suc d) mode img t a v s none =
     let e = mode .edition in
     let b = blockAt img a in
-    let sound = below d img b (s .1) in
+    let sound = below d img b (s .2) in
     let rest = ruled (applied d mode img t) img v (stepOf mode img t a v) .begun in
     let one = ruled-shallow (applied d mode img t) img b d e (λ r w h. shallow d mode img t r w (sound r h)) v (stepOf mode img t a v)
-    (step-follows mode img t b v a (s .0)) (first e img a rest none) (others e img a rest none) in
+    (step-follows mode img t b v a (s .1)) (first e img a rest none) (others e img a rest none) in
     omega (arith, one)

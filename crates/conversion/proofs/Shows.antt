@@ -54,7 +54,7 @@ pub shows : (mode : Mode) (img question : List ℕ) (a l n : ℕ) → checked im
 unfolding Sound shownFor seen
 shows mode img question a l n e ten =
     let k = acceptance img a l n e in
-    let whole = k .sound .0 in
+    let whole = k .sound .1 in
     let root : seen img a ≡ Open (viewOf (blockAt img a)) = ap seenOf whole in
     let said = answers 20 mode img question a whole ten in
     let shown : shownFor img a l question ≡ ofLead img (translated img (viewOf (blockAt img a)) question) =

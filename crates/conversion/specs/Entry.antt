@@ -29,7 +29,7 @@ refusalNumber Unchanged = 0
 refusalNumber Unknown = 0
 refusalNumber (Refused r) = numberOf r
 
--- the address that refusals 1 to 6 carry
+-- the address that refusals 1 to 6 and 18 carry
 abbrev pub addressIn : Answer → Word
 addressIn (Number x) = NoWord
 addressIn (Text n) = NoWord

@@ -50,7 +50,7 @@ impl Answer {
         }
     }
 
-    // The address that refusals 1 to 6 carry.
+    // The address that refusals 1 to 6 and 18 carry.
     pub fn address(self) -> Word
         ensures { λ r. ⌜ r ≡ addressIn self ⌝ }
     {

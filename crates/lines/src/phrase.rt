@@ -12,7 +12,7 @@ pub fn say(phrases: &[u8], k: usize) {
 }
 
 // The names of the refusals by their numbers.
-const NAMES: [u8; 340] = *b"00||................\
+const NAMES: [u8; 380] = *b"00||................\
     01| Outside|........\
     02| NotConversion|..\
     03| Limit|..........\
@@ -28,7 +28,9 @@ const NAMES: [u8; 340] = *b"00||................\
     13||................\
     14||................\
     15||................\
-    16| Edition|........";
+    16| Edition|........\
+    17||................\
+    18| FewLinks|.......";
 
 pub fn name(number: usize) {
     say(&NAMES, number);

@@ -89,8 +89,8 @@ module _ (one other : Mode) (img t : List ℕ) where
   same-without zero a v s none = absurd s
   same-without (suc d) a v s none =
       let b = blockAt img a in
-      let sound = below d img b (s .1) in
+      let sound = below d img b (s .2) in
       ap (begin a)
       (other-type (applied d one img t) (applied d other img t) img b (λ r w h. same-without d r w (sound r h)) (one .edition) v (stepOf one img t a v)
-      (step-follows one img t b v a (s .0)) (none .0) (none .1)
-      ∙ ap (ruled (applied d other img t) img v) (step-of-other a v (s .0) (none .0)))
+      (step-follows one img t b v a (s .1)) (none .0) (none .1)
+      ∙ ap (ruled (applied d other img t) img v) (step-of-other a v (s .1) (none .0)))

@@ -73,14 +73,14 @@ module _ (mode : Mode) (older : mode .edition ≡ Mdf410) (img t : List ℕ) whe
   unfolding settled answerIn outputAfter Sound
   eleven-in-410 a limit n v out e eleven =
       after-check mode img a limit n v t out e
-      ∙ ap (λ (x : Ap). settled n a x out) (alone-in-410 20 a v (acceptance img a limit n e .sound .0) eleven)
+      ∙ ap (λ (x : Ap). settled n a x out) (alone-in-410 20 a v (acceptance img a limit n e .sound .1) eleven)
 
 -- ---- one call
 module _ (img : List ℕ) (a limit : ℕ) (v : Value) (t out : List ℕ) where
-  -- a call is as the check without a mode says: where that accepts with n, N is n and none of its refusals is told; where it refuses, the call is that
+  -- a call is as the check without a mode says: where that accepts with n, N is n and it refuses with 7 or 8 at most; where it refuses, the call is that
   -- refusal
   abbrev pub AsChecked : Checked → Call → Type 0
-  AsChecked (Accepted n) c = (c .result .checked ≡ n) × ((r : Refusal) → c .result .answer ≡ Refused r → 7 ≤ numberOf r)
+  AsChecked (Accepted n) c = (c .result .checked ≡ n) × ((r : Refusal) → c .result .answer ≡ Refused r → (7 ≤ numberOf r) × (numberOf r ≤ 8))
   AsChecked (Unsound r) c = c ≡ call (refusedBefore r) out
 
   -- "The check is alike in both": N and the check's refusals are those of the plain check in every mode
@@ -91,7 +91,7 @@ module _ (img : List ℕ) (a limit : ℕ) (v : Value) (t out : List ℕ) where
       go : (c : Checked) → checked img a limit ≡ c → AsChecked c (applying mode img a limit v t out)
       go (Accepted n) e =
           let it = demand-3 mode img a limit v t out .accepted n e in
-          (it .its-count, λ r p. ⊎-elim (λ seven. omega (arith, seven)) (λ eight. omega (arith, eight)) (it .refusals r p))
+          (it .its-count, λ r p. ⊎-elim (λ seven. (omega (arith, seven), omega (arith, seven))) (λ eight. (omega (arith, eight), omega (arith, eight))) (it .refusals r p))
       go (Unsound r) e = ap (λ (c : Checked). byCheck c (λ n. settled n a (applied 21 mode img t a v) out) out) e
 
   -- the same of the entry that takes numbers

@@ -2,9 +2,9 @@
 -- tests, and the width. Those of the edition stand in `Editions`. Assumes nothing.
 use mathlib.Core.Path.{_≡_, refl, sym, ap, ap₂, subst, _∙_}
 use mathlib.Core.Bool.{Bool, true, false, cond, _&&_}
-use mathlib.Core.Logic.{⊎-elim}
+use mathlib.Core.Logic.{_⊎_, inl, inr, ⊎-elim}
 use mathlib.Core.List.{List}
-use Prim.Native.Nat.{ℕ, _*_, _^_, _≤_}
+use Prim.Native.Nat.{ℕ, _*_, _^_, _≤_, _<_}
 use native.Mathlib.Nat.{lt-of-lt-of-le, lt-of-le-of-lt}
 use native.Mathlib.Omega.{arith}
 use borrow.Author.Tests.{leb-true}
@@ -24,7 +24,7 @@ use Rattle.steps.specs.declared.mode.Mode.{Mode}
 use Rattle.tree.specs.Walk.{checked}
 use Rattle.tree.specs.declared.Checked.{Checked}
 use Rattle.tree.specs.declared.Checked.the-variants.{Accepted, Unsound}
-use Rattle.tree.proofs.Checks.{OneToSix, one-to-six}
+use Rattle.tree.proofs.Checks.{OfCheck, check-refuses}
 use Rattle.engine.specs.Apply.{Ap, applied}
 use Rattle.conversion.specs.Entry.{Call, call, refusedBefore, byCheck, settled, applying}
 use Rattle.conversion.specs.declared.logic.Answer.the-variants.{Refused}
@@ -34,18 +34,22 @@ use Rattle.modes.specs.Asked.{isEdition, isWidth, modeOf, refusalOf, app
 use Rattle.modes.proofs.Same.{below, held, same-bits, same-root}
 
 -- ---- the refusals of a call that has a mode
--- a call in a mode refuses with 1 to 8
-pub one-to-eight : (mode : Mode) (img : List ℕ) (a limit : ℕ) (v : Value) (t out : List ℕ) (r : Refusal)
-    → applying mode img a limit v t out .result .answer ≡ Refused r → numberOf r ≤ 8
-one-to-eight mode img a limit v t out r p = go (checked img a limit) refl
+-- a call in a mode refuses with 1 to 8 or 18
+pub mode-refuses : (mode : Mode) (img : List ℕ) (a limit : ℕ) (v : Value) (t out : List ℕ) (r : Refusal)
+    → applying mode img a limit v t out .result .answer ≡ Refused r → (numberOf r ≤ 8) ⊎ (numberOf r ≡ 18)
+mode-refuses mode img a limit v t out r p = go (checked img a limit) refl
   where
-    go : (c : Checked) → checked img a limit ≡ c → numberOf r ≤ 8
+    go : (c : Checked) → checked img a limit ≡ c → (numberOf r ≤ 8) ⊎ (numberOf r ≡ 18)
     go (Accepted n) e =
-        ⊎-elim (λ seven. omega (arith, seven)) (λ eight. omega (arith, eight)) (demand-3 mode img a limit v t out .accepted n e .refusals r p)
+        ⊎-elim (λ seven. inl (omega (arith, seven))) (λ eight. inl (omega (arith, eight))) (demand-3 mode img a limit v t out .accepted n e .refusals r p)
     go (Unsound s) e =
         let same : Refused s ≡ Refused r = sym (demand-3 mode img a limit v t out .refused s e .answer) ∙ p in
         let it : s ≡ r = cc in
-        omega (arith, subst OneToSix e (one-to-six img a limit), ap numberOf it)
+        ⊎-elim (λ six. inl (omega (arith, six, ap numberOf it))) (λ few. inr (omega (arith, few, ap numberOf it))) (subst OfCheck e (check-refuses img a limit))
+
+-- so it never refuses with a number between these
+not-between : {P : Type 0} (n : ℕ) → 8 < n → n < 18 → (n ≤ 8) ⊎ (n ≡ 18) → P
+not-between n low high h = absurd (⊎-elim (λ le. omega arith) (λ e. omega arith) h)
 
 -- ---- the bits that pass
 pub both : (p q : Bool) → (p && q) ≡ true → (p ≡ true) × (q ≡ true)
@@ -132,7 +136,7 @@ module _ (img : List ℕ) (a limit : ℕ) (t out : List ℕ) where
       where
         go : (named fits : Bool) → isEdition edition ≡ named → isWidth width ≡ fits → isEdition edition ≡ false
         go true true h k =
-            absurd (omega (arith, one-to-eight (modeOf edition width) img a limit v t out WrongEdition (answered v _ WrongEdition (mode-taken v h k) p)))
+            not-between 16 (omega arith) (omega arith) (mode-refuses (modeOf edition width) img a limit v t out WrongEdition (answered v _ WrongEdition (mode-taken v h k) p))
         go true false h k = let same : Refused Width ≡ Refused WrongEdition = answered v _ WrongEdition (width-refused v h k) p in clash cc
         go false fits h k = h
 
@@ -143,7 +147,7 @@ module _ (img : List ℕ) (a limit : ℕ) (t out : List ℕ) where
       where
         go : (named fits : Bool) → isEdition edition ≡ named → isWidth width ≡ fits → (isEdition edition ≡ true) × (isWidth width ≡ false)
         go true true h k =
-            absurd (omega (arith, one-to-eight (modeOf edition width) img a limit v t out Width (answered v _ Width (mode-taken v h k) p)))
+            not-between 11 (omega arith) (omega arith) (mode-refuses (modeOf edition width) img a limit v t out Width (answered v _ Width (mode-taken v h k) p))
         go true false h k = (h, k)
         go false fits h k = let same : Refused WrongEdition ≡ Refused Width = answered v _ Width (edition-refused v h) p in clash cc
 

@@ -1,21 +1,22 @@
--- What acceptance tells (demand 3): every block of the unfolded tree is whole, the depth fits, and N is the tree's size; and a higher limit
+-- What acceptance tells (demand 3): every block of the unfolded tree is whole and has its four links, the depth fits, and N is the tree's size; and a higher limit
 -- changes no accepted count. Assumes nothing.
 use mathlib.Core.Path.{_≡_, refl, sym, ap, _∙_}
 use mathlib.Core.Bool.{Bool, true, false, cond}
 use mathlib.Core.List.{List, [], _∷_, _++_}
 use Prim.Native.Nat.{ℕ, zero, suc, _+_, _≤_}
 use native.Mathlib.Omega.{arith}
+use borrow.Author.Tests.{ltb-false}
 use lib.Dec.{eqb, leb}
 use lib.ListN.{length, length-append}
 use Rattle.words.proofs.Clash.{clash}
 use Rattle.common.specs.Header.{inside, isConversion}
 use Rattle.common.specs.declared.refusal.Refusal.the-variants.{Outside, NotConversion, Short}
 use Rattle.common.proofs.Headers.{inside-fits}
-use Rattle.blocks.specs.Block.{blockEnd, blockAt, opened}
+use Rattle.blocks.specs.Block.{blockEnd, blockAt, opened, fewLinks}
 use Rattle.blocks.specs.Place.{references}
 use Rattle.blocks.specs.declared.Block.{Block}
 use Rattle.blocks.specs.declared.Parsed.the-variants.{Whole, Refused}
-use Rattle.tree.specs.Walk.{Walk, End, complete, fault, deep, stopped, onward, andThen, followed, walkLinks, unlessShort, on, classed, walk, trace, answer, checked}
+use Rattle.tree.specs.Walk.{Walk, End, complete, fault, deep, stopped, onward, andThen, followed, walkLinks, unlessFew, unlessShort, entered, on, classed, walk, trace, answer, checked}
 use Rattle.tree.specs.Tree.{leadsIn, sizes, size, Each, Sound}
 use Rattle.tree.specs.declared.Link.{Link}
 use Rattle.tree.specs.declared.Link.the-variants.{Nowhere, Back, Nested}
@@ -68,17 +69,20 @@ module _ (f : ℕ → Walk) (img path : List ℕ) (g : ℕ → ℕ) (P : ℕ →
       let o = one r w (sizes g (leadsIn img) rs) (classed img path r) refl (λ q. all rs q .0) p in
       (o .0, (o .1, all rs (o .2) .1))
 
--- a walk that is complete was of a whole block
-opens : (img : List ℕ) (a : ℕ) (g : Block → Walk) → unlessShort a (opened img a) g .ending ≡ complete
-    → (opened img a ≡ Whole (blockAt img a)) × (unlessShort a (opened img a) g ≡ g (blockAt img a))
-unfolding opened
-opens img a g = go (leb (blockEnd img a) (length img))
+-- a walk that is complete was of a whole block with its four links
+opens : (img : List ℕ) (a : ℕ) (g : Block → Walk) → entered img a g .ending ≡ complete
+    → (4 ≤ blockAt img a .links) × (opened img a ≡ Whole (blockAt img a)) × (entered img a g ≡ g (blockAt img a))
+unfolding entered opened fewLinks blockAt
+opens img a g = go (fewLinks img a) refl (leb (blockEnd img a) (length img))
   where
-    go : (b : Bool) → unlessShort a (cond b (Whole (blockAt img a)) (Refused (Short a))) g .ending ≡ complete
-        → (cond b (Whole (blockAt img a)) (Refused (Short a)) ≡ Whole (blockAt img a))
-        × (unlessShort a (cond b (Whole (blockAt img a)) (Refused (Short a))) g ≡ g (blockAt img a))
-    go true p = (refl, refl)
-    go false p = clash cc
+    go : (f : Bool) → fewLinks img a ≡ f → (b : Bool)
+        → unlessFew a f (unlessShort a (cond b (Whole (blockAt img a)) (Refused (Short a))) g) .ending ≡ complete
+        → (4 ≤ blockAt img a .links)
+        × (cond b (Whole (blockAt img a)) (Refused (Short a)) ≡ Whole (blockAt img a))
+        × (unlessFew a f (unlessShort a (cond b (Whole (blockAt img a)) (Refused (Short a))) g) ≡ g (blockAt img a))
+    go true t b p = clash cc
+    go false t true p = (ltb-false _ _ t, refl, refl)
+    go false t false p = clash cc
 
 -- a complete walk of a block has the tree's size, and the tree is sound
 pub tree : (d : ℕ) (img path : List ℕ) (a : ℕ) → walk d img path a .ending ≡ complete
@@ -86,17 +90,17 @@ pub tree : (d : ℕ) (img path : List ℕ) (a : ℕ) → walk d img path a .endi
 unfolding walk size Sound
 tree zero img path a p =
     let o = opens img a (λ b. stopped (deep a)) p in
-    let q : fault (deep a) ≡ complete = ap (λ (w : Walk). w .ending) (sym (o .1)) ∙ p in
+    let q : fault (deep a) ≡ complete = ap (λ (w : Walk). w .ending) (sym (o .2)) ∙ p in
     clash cc
 tree (suc d) img path a p =
     let inner = path ++ (a ∷ []) in
     let links : Block → Walk = λ b. walkLinks (walk d img inner) (classed img inner) (references img b) in
     let o = opens img a links p in
-    let q : links (blockAt img a) .ending ≡ complete = ap (λ (w : Walk). w .ending) (sym (o .1)) ∙ p in
+    let q : links (blockAt img a) .ending ≡ complete = ap (λ (w : Walk). w .ending) (sym (o .2)) ∙ p in
     let al =
     all (walk d img inner) img inner (size d img) (Sound d img) (λ r h. tree d img inner r h .0) (λ r h. tree d img inner r h .1)
     (references img (blockAt img a)) q in
-    (omega (arith, ap (λ (w : Walk). length (w .visits)) (o .1), al .0), (o .0, al .1))
+    (omega (arith, ap (λ (w : Walk). length (w .visits)) (o .2), al .0), (o .0, o .1, al .1))
 
 -- ---- an accepted check
 pub record Acceptance (img : List ℕ) (a l n : ℕ) : Type 0 where

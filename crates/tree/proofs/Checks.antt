@@ -2,7 +2,7 @@
 -- it meets another fault. Assumes nothing.
 use mathlib.Core.Path.{_≡_, refl, sym, ap, _∙_}
 use mathlib.Core.Bool.{Bool, true, false, cond}
-use mathlib.Core.Logic.{⊎-elim}
+use mathlib.Core.Logic.{_⊎_, inl, inr, ⊎-elim}
 use mathlib.Core.List.{List}
 use Prim.Native.Nat.{ℕ, _+_, _-_, _≤_, _<_}
 use native.Mathlib.Omega.{arith}
@@ -12,7 +12,7 @@ use Rattle.words.proofs.Clash.{clash}
 use Rattle.common.specs.Header.{inside, isConversion}
 use Rattle.common.specs.Refusal.{numberOf}
 use Rattle.common.specs.declared.refusal.Refusal.the-variants.{Outside, NotConversion, Limit}
-use Rattle.tree.specs.Walk.{End, complete, fault, short, deep, loop, trace, ended, answer, checked}
+use Rattle.tree.specs.Walk.{End, complete, fault, few, short, deep, loop, trace, ended, answer, checked}
 use Rattle.tree.specs.declared.Checked.{Checked}
 use Rattle.tree.specs.declared.Checked.the-variants.{Accepted, Unsound}
 use Rattle.tree.proofs.Answers.{lt-or-le, over, under}
@@ -47,35 +47,37 @@ module _ (img : List ℕ) (a l : ℕ) where
       go true false s t e = absurd (q e)
       go false z s t e = absurd (p e)
 
--- ---- its refusals are 1 to 6
-abbrev pub OneToSix : Checked → Type 0
-OneToSix (Accepted n) = Unit {0}
-OneToSix (Unsound r) = numberOf r ≤ 6
+-- ---- its refusals are 1 to 6 and 18
+abbrev pub OfCheck : Checked → Type 0
+OfCheck (Accepted n) = Unit {0}
+OfCheck (Unsound r) = (numberOf r ≤ 6) ⊎ (numberOf r ≡ 18)
 
-pub one-to-six : (img : List ℕ) (a l : ℕ) → OneToSix (checked img a l)
+pub check-refuses : (img : List ℕ) (a l : ℕ) → OfCheck (checked img a l)
 unfolding checked answer
-one-to-six img a l = go (inside img a) (isConversion img a) (ltb (l - 0) (length (trace img a .visits))) (trace img a .ending)
+check-refuses img a l = go (inside img a) (isConversion img a) (ltb (l - 0) (length (trace img a .visits))) (trace img a .ending)
   where
-    ending : (n : ℕ) (e : End) → OneToSix (ended n e)
+    ending : (n : ℕ) (e : End) → OfCheck (ended n e)
     ending n complete = tt
-    ending n (fault (short x)) = omega arith
-    ending n (fault (deep x)) = omega arith
-    ending n (fault (loop x)) = omega arith
+    ending n (fault (few x)) = inr refl
+    ending n (fault (short x)) = inl (omega arith)
+    ending n (fault (deep x)) = inl (omega arith)
+    ending n (fault (loop x)) = inl (omega arith)
 
     go : (x y z : Bool) (e : End)
-        → OneToSix
+        → OfCheck
         (cond x
         (cond y (cond z (Unsound (Limit (getD (trace img a .visits) (l - 0) 0))) (ended (0 + length (trace img a .visits)) e)) (Unsound (NotConversion a)))
         (Unsound (Outside a)))
-    go true true true e = omega arith
+    go true true true e = inl (omega arith)
     go true true false e = ending (0 + length (trace img a .visits)) e
-    go true false z e = omega arith
-    go false y z e = omega arith
+    go true false z e = inl (omega arith)
+    go false y z e = inl (omega arith)
 
 -- ---- the limit, exactly
 -- a walk's own ending is no Limit
 not-limit : (n x : ℕ) (e : End) → ended n e ≡ Unsound (Limit x) → ⊥
 not-limit n x complete p = clash cc
+not-limit n x (fault (few b)) p = clash cc
 not-limit n x (fault (short b)) p = clash cc
 not-limit n x (fault (deep b)) p = clash cc
 not-limit n x (fault (loop b)) p = clash cc

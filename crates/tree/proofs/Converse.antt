@@ -1,23 +1,26 @@
 -- The converse of `acceptance` (demand 3): the check accepts exactly the trees that are sound and whose size is at most the limit, and refuses the
--- others. A sound tree has no loop, and more levels change neither that it is sound nor its size. Assumes nothing.
+-- others. A sound tree has no loop, and more levels change neither that it is sound nor its size; each of its blocks parses. Assumes nothing.
 use mathlib.Core.Path.{_≡_, refl, sym, ap, subst, _∙_}
 use mathlib.Core.Bool.{Bool, true, false, cond}
 use mathlib.Core.Logic.{_↔_, ⊎-elim}
 use mathlib.Core.List.{List, [], _∷_, _++_}
 use Prim.Native.Nat.{ℕ, zero, suc, _+_, _≤_, _<_}
 use native.Mathlib.Omega.{arith}
-use borrow.Author.Tests.{eqb-true, eq-eqb, le-leb}
+use borrow.Author.Tests.{eqb-true, eq-eqb, le-leb, le-ltb}
 use lib.Dec.{eqb}
 use lib.ListN.{length, getD, length-append}
+use Rattle.words.specs.Words.{word64}
 use Rattle.words.proofs.Clash.{clash}
 use Rattle.common.specs.Header.{inside, isConversion}
 use Rattle.common.specs.declared.refusal.Refusal.{Refusal}
 use Rattle.common.specs.declared.refusal.Refusal.the-variants.{Limit}
-use Rattle.blocks.specs.Block.{blockAt, opened}
+use Rattle.blocks.specs.Block.{blockAt, opened, fewLinks, parsed}
 use Rattle.blocks.specs.Place.{references}
 use Rattle.blocks.specs.declared.Block.{Block}
 use Rattle.blocks.specs.declared.Parsed.{Parsed}
-use Rattle.tree.specs.Walk.{Walk, End, complete, fault, onward, andThen, followed, walkLinks, unlessShort, on, classed, walk, trace, ended, checked}
+use Rattle.blocks.specs.declared.Parsed.the-variants.{Whole}
+use Rattle.blocks.proofs.Opening.{read-conversion, read-parses}
+use Rattle.tree.specs.Walk.{Walk, End, complete, fault, onward, andThen, followed, walkLinks, unlessShort, entered, on, classed, walk, trace, ended, checked}
 use Rattle.tree.specs.Tree.{leadsIn, sizes, size, Each, Sound}
 use Rattle.tree.specs.Follow.{Standing}
 use Rattle.tree.specs.declared.Link.the-variants.{Nowhere, Back, Nested}
@@ -50,7 +53,7 @@ unfolding Sound
 sound-levels zero e img a h s = absurd s
 sound-levels (suc d) zero img a h s = absurd (omega arith)
 sound-levels (suc d) (suc e) img a h s =
-    (s .0, each-more (Sound d img) (leadsIn img) (Sound e img) (λ r. sound-levels d e img r (omega arith)) (references img (blockAt img a)) (s .1))
+    (s .0, s .1, each-more (Sound d img) (leadsIn img) (Sound e img) (λ r. sound-levels d e img r (omega arith)) (references img (blockAt img a)) (s .2))
 
 -- and its size is the same
 pub size-levels : (d e : ℕ) (img : List ℕ) (a : ℕ) → d ≤ e → Sound d img a → size e img a ≡ size d img a
@@ -59,7 +62,7 @@ size-levels zero e img a h s = absurd s
 size-levels (suc d) zero img a h s = absurd (omega arith)
 size-levels (suc d) (suc e) img a h s =
     ap (λ (n : ℕ). 1 + n)
-    (sizes-same (Sound d img) (leadsIn img) (size e img) (size d img) (λ r. size-levels d e img r (omega arith)) (references img (blockAt img a)) (s .1))
+    (sizes-same (Sound d img) (leadsIn img) (size e img) (size d img) (λ r. size-levels d e img r (omega arith)) (references img (blockAt img a)) (s .2))
 
 -- ---- no loop: the tree of a block below another is the smaller one, so no block lies below itself
 -- what holds of each holds of the one that is there
@@ -98,7 +101,7 @@ unfolding Sound size
 smaller-child zero img a r s c = absurd s
 smaller-child (suc d) img a r s c =
     let rs = references img (blockAt img a) in
-    let under : Sound d img r = each-of (Sound d img) (leadsIn img) r (c .1) rs (c .0) (s .1) in
+    let under : Sound d img r = each-of (Sound d img) (leadsIn img) r (c .1) rs (c .0) (s .2) in
     let least = size-levels d (suc d) img r (omega arith) under in
     let most = summand (size d img) (leadsIn img) r (c .1) rs (c .0) in
     (sound-levels d (suc d) img r (omega arith) under, omega (arith, least, most))
@@ -181,6 +184,12 @@ never : (b : Bool) → (b ≡ true → ⊥) → b ≡ false
 never true h = absurd (h refl)
 never false h = refl
 
+-- a block with its four links that is whole is entered
+sound-enters : (img : List ℕ) (a : ℕ) (g : Block → Walk) → 4 ≤ blockAt img a .links → opened img a ≡ Whole (blockAt img a)
+    → entered img a g ≡ g (blockAt img a)
+unfolding entered fewLinks blockAt
+sound-enters img a g h e = rw (le-ltb (word64 img (a + 16)) 4 h) (ap (λ (p : Parsed). unlessShort a p g) e)
+
 -- the walk of a sound tree is complete, and begins as many visits as the tree has blocks
 pub sound-walk : (d : ℕ) (img path : List ℕ) (a : ℕ) → Standing img path → a + 24 ≤ length img → isConversion img a ≡ true
     → ((x : ℕ) → on x path ≡ true → Below img x a) → Sound d img a
@@ -192,11 +201,11 @@ sound-walk (suc d) img path a stands fits is above s =
     let rs = references img (blockAt img a) in
     let standing = standing-more img path a stands fits is in
     let links : Block → Walk = λ b. walkLinks (walk d img inner) (classed img inner) (references img b) in
-    let opens : unlessShort a (opened img a) links ≡ links (blockAt img a) = ap (λ (p : Parsed). unlessShort a p links) (s .0) in
+    let opens = sound-enters img a links (s .0) (s .1) in
     let al =
     all-links (walk d img inner) img inner (size d img) standing rs
     (λ r o t.
-    let under : Sound d img r = each-of (Sound d img) (leadsIn img) r t rs o (s .1) in
+    let under : Sound d img r = each-of (Sound d img) (leadsIn img) r t rs o (s .2) in
     let up : (x : ℕ) → on x inner ≡ true → Below img x r = λ x e. ⊎-elim (λ p. further (above x p) (o, t)) (λ p. subst (λ (y : ℕ). Below img y r) p (directly (o, t))) (on-more path a x e) in
     let off = never (on r inner) (λ e. no-loop d img r r under (up r e) (up r e)) in
     let nested = inward img inner r off t in
@@ -225,7 +234,7 @@ module _ (img : List ℕ) (a l : ℕ) (fits : a + 24 ≤ length img) (is : isCon
   pub limited-when : l < size 21 img a → checked img a l ≡ Unsound (Limit (getD (trace img a .visits) l 0))
   limited-when h = limit-comes img a l root (omega (arith, the-walk .1))
 
-  -- it is refused for nothing else: a tree that is refused for a short block, its depth or a loop is not sound
+  -- it is refused for nothing else: a tree that is refused for few links, a short block, its depth or a loop is not sound
   pub only-limit : (x : Refusal) → checked img a l ≡ Unsound x → (l < size 21 img a) × (x ≡ Limit (getD (trace img a .visits) l 0))
   only-limit x e =
       ⊎-elim
@@ -253,3 +262,31 @@ refused-iff img a l = (
         → (x : Refusal) × (c ≡ Unsound x)
     go bad (Accepted n) e = let h = acceptance img a l n e in absurd (bad (h .header, h .conversion, h .sound, omega (arith, h .count, h .few)))
     go bad (Unsound x) e = (x, refl)
+
+-- ---- 18 and 4 cannot follow an accepted check: parsing the root or any block below it gives its record
+sound-parses : (d : ℕ) (img : List ℕ) (a : ℕ) → inside img a ≡ true → isConversion img a ≡ true → Sound d img a → parsed img a ≡ Whole (blockAt img a)
+unfolding Sound
+sound-parses zero img a h k s = absurd s
+sound-parses (suc d) img a h k s = read-parses img a (blockAt img a) (read-conversion img a h k ∙ s .1) (s .0)
+
+leads-there : (img : List ℕ) (r : ℕ) → leadsIn img r ≡ true → (inside img r ≡ true) × (isConversion img r ≡ true)
+unfolding leadsIn
+leads-there img r = go (eqb r 0) (inside img r) (isConversion img r)
+  where
+    go : (s u v : Bool) → cond s false (cond u v false) ≡ true → (u ≡ true) × (v ≡ true)
+    go true u v p = clash cc
+    go false true v p = (refl, p)
+    go false false v p = clash cc
+
+pub root-parses : (img : List ℕ) (a l n : ℕ) → checked img a l ≡ Accepted n → parsed img a ≡ Whole (blockAt img a)
+unfolding inside
+root-parses img a l n e = let k = acceptance img a l n e in sound-parses 21 img a (le-leb (a + 24) (length img) (k .header)) (k .conversion) (k .sound)
+
+pub below-parses : (img : List ℕ) (a l n x : ℕ) → checked img a l ≡ Accepted n → Below img a x → parsed img x ≡ Whole (blockAt img x)
+below-parses img a l n x e b =
+    let there = leads-there img x (last-leads b) in
+    sound-parses 21 img x (there .0) (there .1) (below-smaller 21 img a x (acceptance img a l n e .sound) b .0)
+  where
+    last-leads : Below img a x → leadsIn img x ≡ true
+    last-leads (directly c) = c .1
+    last-leads (further b c) = c .1

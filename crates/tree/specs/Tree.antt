@@ -1,8 +1,8 @@
--- The unfolded conversion tree, with no path and no limit: how many blocks it has, repeats included, and that each is whole (demand 3).
--- Assumes nothing: these are definitions.
+-- The unfolded conversion tree, with no path and no limit: how many blocks it has, repeats included, and that each is whole and has the four fixed
+-- links (demand 3; request [11]). Assumes nothing: these are definitions.
 use mathlib.Core.Path.{_≡_}
 use mathlib.Core.Bool.{Bool, true, false, cond}
-use Prim.Native.Nat.{ℕ, zero, suc, _+_}
+use Prim.Native.Nat.{ℕ, zero, suc, _+_, _≤_}
 use mathlib.Core.List.{List, [], _∷_}
 use lib.Dec.{eqb}
 use Rattle.common.specs.Header.{inside, isConversion}
@@ -29,7 +29,10 @@ unfoldable pub Each : (ℕ → Type 0) → (ℕ → Bool) → List ℕ → Type 
 Each P k [] = Unit {0}
 Each P k (r ∷ rs) = (k r ≡ true → P r) × Each P k rs
 
--- the tree at a has at most d levels, and each block of it is whole
+-- the tree at a has at most d levels, and each block of it has at least four links and is whole
 unfoldable pub Sound : ℕ → List ℕ → ℕ → Type 0
 Sound zero img a = ⊥
-Sound (suc d) img a = (opened img a ≡ Whole (blockAt img a)) × Each (Sound d img) (leadsIn img) (references img (blockAt img a))
+Sound (suc d) img a =
+    (4 ≤ blockAt img a .links)
+    × (opened img a ≡ Whole (blockAt img a))
+    × Each (Sound d img) (leadsIn img) (references img (blockAt img a))

@@ -7,8 +7,8 @@ use lib.Dec.{eqb, ltb}
 use lib.ListN.{length, getD}
 use Rattle.common.specs.Header.{inside, isConversion}
 use Rattle.common.specs.declared.refusal.Refusal.{Refusal}
-use Rattle.common.specs.declared.refusal.Refusal.the-variants.{Outside, NotConversion, Limit, Short, Deep, Loop}
-use Rattle.blocks.specs.Block.{opened}
+use Rattle.common.specs.declared.refusal.Refusal.the-variants.{Outside, NotConversion, Limit, Short, Deep, Loop, FewLinks}
+use Rattle.blocks.specs.Block.{opened, fewLinks}
 use Rattle.blocks.specs.Place.{references}
 use Rattle.blocks.specs.declared.Block.{Block}
 use Rattle.blocks.specs.declared.Parsed.{Parsed}
@@ -19,8 +19,9 @@ use Rattle.tree.specs.declared.Checked.{Checked}
 use Rattle.tree.specs.declared.Checked.the-variants.{Accepted, Unsound}
 
 -- ---- the trace of an unlimited walk
--- the faults that a walk can meet: 4, 5 and 6
+-- the faults that a walk can meet: 18, 4, 5 and 6
 pub data Fault : Type 0 where
+  few : ℕ → Fault
   short : ℕ → Fault
   deep : ℕ → Fault
   loop : ℕ → Fault
@@ -74,19 +75,26 @@ unfoldable pub walkLinks : (ℕ → Walk) → (ℕ → Link) → List ℕ → Wa
 walkLinks f k [] = nothing
 walkLinks f k (r ∷ rs) = andThen (followed f (k r) r) (walkLinks f k rs)
 
+-- a block with under four links stops the walk (request [11])
+abbrev pub unlessFew : ℕ → Bool → Walk → Walk
+unlessFew a true w = stopped (few a)
+unlessFew a false w = w
+
 -- a short block stops the walk
 abbrev pub unlessShort : ℕ → Parsed → (Block → Walk) → Walk
 unlessShort a (Whole b) g = g b
 unlessShort a (Refused r) g = stopped (short a)
 
--- the walk of the block at a, below the blocks of path, with so many levels left: one visit; 4 if the block is short, then 5 if no level is left,
--- then its references, whatever its type
+-- the block at a is read, and then what is done with it: 18 if it has under four links, then 4 if it is short
+unfoldable pub entered : List ℕ → ℕ → (Block → Walk) → Walk
+entered img a g = unlessFew a (fewLinks img a) (unlessShort a (opened img a) g)
+
+-- the walk of the block at a, below the blocks of path, with so many levels left: one visit; 18 and 4, then 5 if no level is left, then its
+-- references, whatever its type
 unfoldable pub walk : ℕ → List ℕ → List ℕ → ℕ → Walk
-walk zero img path a = visit a (unlessShort a (opened img a) (λ b. stopped (deep a)))
+walk zero img path a = visit a (entered img a (λ b. stopped (deep a)))
 walk (suc d) img path a =
-    visit a
-    (unlessShort a (opened img a)
-    (λ b. walkLinks (walk d img (path ++ (a ∷ []))) (classed img (path ++ (a ∷ []))) (references img b)))
+    visit a (entered img a (λ b. walkLinks (walk d img (path ++ (a ∷ []))) (classed img (path ++ (a ∷ []))) (references img b)))
 
 -- from the root, at depth 0; a block at depth 20 is the deepest, so there are 21 levels
 abbrev pub trace : List ℕ → ℕ → Walk
@@ -94,6 +102,7 @@ trace img a = walk 21 img [] a
 
 -- ---- what a limited walk answers
 abbrev pub faultRefusal : Fault → Refusal
+faultRefusal (few a) = FewLinks a
 faultRefusal (short a) = Short a
 faultRefusal (deep a) = Deep a
 faultRefusal (loop a) = Loop a

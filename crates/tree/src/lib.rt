@@ -119,17 +119,21 @@ fn follow(image: &[u8], r: u64, path: &mut [u64], depth: usize, tally: Tally, li
     }
 }
 
-// The ##CC block at `at`, below the blocks of the first `depth` addresses, after so many visits.
+// The ##CC block at `at`, below the blocks of the first `depth` addresses, after so many visits: 3, then 18, 4 and 5, then its references.
 fn walk(image: &[u8], at: u64, path: &mut [u64], depth: usize, visits: u32, limit: u32) -> Checked
     requires { ⌜ (length (now path) ≡ 21) × (depth ≤ 21) × (visits ≤ limit) ⌝ }
     requires { ⌜ (at + 24 ≤ length (now image)) × (isConversion (now image) at ≡ true) × Standing (now image) (take depth (now path)) ⌝ }
     ensures { λ r. ⌜ r ≡ answer limit visits (walkOf (21 - depth) (now (image .entry)) (take depth (now (path .entry))) at) ⌝ }
     ensures { λ r. ⌜ take depth (now (path .exit)) ≡ take depth (now (path .entry)) ⌝ }
 {
+    let from = at as usize;
+    let few = Block::has_few_links(image, from);
     if visits == limit {
         return Checked::Unsound(Refusal::Limit(at));
     }
-    let from = at as usize;
+    if few {
+        return Checked::Unsound(Refusal::FewLinks(at));
+    }
     let Seen::Open(view) = View::look(image, from) else {
         return Checked::Unsound(Refusal::Short(at));
     };

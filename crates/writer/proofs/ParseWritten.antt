@@ -6,7 +6,7 @@ use mathlib.Core.List.{List, [], _++_, append-assoc}
 use Prim.Native.Nat.{ℕ, _+_, _-_, _*_, _^_, _≤_, _<_}
 use native.Mathlib.Nat.{add-zero}
 use native.Mathlib.Omega.{arith}
-use borrow.Author.Tests.{le-leb, lt-leb, eq-eqb}
+use borrow.Author.Tests.{le-leb, lt-leb, le-ltb, eq-eqb}
 use lib.ListN.{length, drop, length-append}
 use lib.Seq.{drop-drop, getD-drop, drop-append-seam}
 use Rattle.words.specs.Words.{word16, word32, word64, words, valueAt, links}
@@ -15,7 +15,7 @@ use Rattle.words.proofs.Slices.{word16-drop, word32-drop, word64-drop, words-dr
 use Rattle.floats.proofs.Kept.{kept-reads-back, kept-small}
 use Rattle.floats.specs.Kept.{keptBits}
 use Rattle.common.specs.Header.{headerAt, inside, isConversion, conversionId}
-use Rattle.blocks.specs.Block.{fixedAt, refCount, fieldsPlace, fieldsAt, valCount, hasRange, isRanged, rangeSize, rangeAt, valuesPlace, blockEnd, blockAt, opened, parsed}
+use Rattle.blocks.specs.Block.{fixedAt, refCount, fieldsPlace, fieldsAt, valCount, hasRange, isRanged, rangeSize, rangeAt, valuesPlace, blockEnd, blockAt, opened, parsedForRepair, fewLinks, retired, parsed}
 use Rattle.blocks.specs.Make.{fixedOf}
 use Rattle.blocks.specs.Place.{wordIn, referenceOf, valueWordOf, wordAt}
 use Rattle.blocks.proofs.Places.{by-place}
@@ -214,14 +214,15 @@ module _ (front rest : List ℕ) (b : Block) (refs values : List ℕ) where
     behind = rw found (omega (arith, place))
 
     pub parse-written : parsed (front ++ (blockBytes b refs values ++ rest)) (length front) ≡ Whole (stored (length front) b (length refs) (length values))
-    unfolding parsed inside isConversion opened blockEnd blockAt stored writeSize headerAt
+    unfolding parsed parsedForRepair retired fewLinks inside isConversion opened blockEnd blockAt stored writeSize headerAt
     parse-written =
         let all : length image ≡ a + (size + length rest) = simp (length-append, length-block) in
         let first : inside image a ≡ true = le-leb (a + 24) (length image) (omega arith) in
         let second : isConversion image a ≡ true = eq-eqb (word32 image a) conversionId (ap (λ (h : Header). h .id) header) in
         let end : blockEnd image a ≤ length image = omega (arith, behind, counted) in
         let block : blockAt image a ≡ stored a b n (length values) = cc (long, linked, fixed, fields, range, behind) in
-        rw (first, second, le-leb (blockEnd image a) (length image) end) (ap Whole block)
+        let third : fewLinks image a ≡ false = le-ltb (word64 image (a + 16)) 4 (omega (arith, linked)) in
+        rw (first, second, third, le-leb (blockEnd image a) (length image) end) (ap Whole block)
 
 -- ---- the same, said of the writer's own answer: where it wrote, the output parses at 0, and reads by place as it was written
 answered : (b : Block) (refs values out : List ℕ) (k : ℕ) (img : List ℕ) → writing b refs values out ≡ writeCall (Bytes k) img

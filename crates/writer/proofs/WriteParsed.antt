@@ -1,5 +1,5 @@
--- Document 01: "Writing what was parsed returns the block's bytes when reserved is zero, links >= 4 and block length equals the bytes read".
--- Each part of the block is a part of the image, and the parts stand one behind the other. Assumes nothing.
+-- Document 01: "Writing what was parsed returns the block's bytes when reserved is zero, links >= 4 and block length equals the bytes read". That it has
+-- the four links is what parsing tests. Each part of the block is a part of the image, and the parts stand one behind the other. Assumes nothing.
 use mathlib.Core.Path.{_≡_, refl, sym, ap, _∙_}
 use mathlib.Core.Bool.{Bool, true, false}
 use mathlib.Core.List.{List, [], _∷_, _++_}
@@ -22,7 +22,7 @@ use Rattle.blocks.specs.declared.Range.{Range}
 use Rattle.blocks.specs.declared.Block.{Block}
 use Rattle.blocks.specs.declared.Parsed.the-variants.{Whole}
 use Rattle.blocks.specs.Make.{rangeOf}
-use Rattle.blocks.proofs.Opening.{parsed-whole}
+use Rattle.blocks.proofs.Opening.{parsed-is-read, parsed-whole}
 use Rattle.writer.specs.declared.Written.the-variants as written
 use Rattle.writer.proofs.Writing.{length-block, block-written}
 
@@ -123,13 +123,14 @@ module _ (s : List ℕ) (h : Bytes s) where
         both (both (both (both (both (header-part _ _ size linked id none) fixed-part) refs-part) (fields-part _ count)) range)
         (many (valCount s a) (valuesPlace s a) (blockEnd s a) refl fits)
 
--- a block b that was parsed: its reserved bytes are zero, it has the fixed links, and its length is that of the bytes read
-module _ (img : List ℕ) (a : ℕ) (b : Block) (h : Bytes img) (whole : parsed img a ≡ Whole b) (none : word32 img (a + 4) ≡ 0) (enough : 4 ≤ b .links)
+-- a block b that was parsed: its reserved bytes are zero, and its length is that of the bytes read
+module _ (img : List ℕ) (a : ℕ) (b : Block) (h : Bytes img) (whole : parsed img a ≡ Whole b) (none : word32 img (a + 4) ≡ 0)
     (long : b .length + a ≡ blockEnd img a) where
-  same-bytes : blockBytes b (references img b) (valueWords img b) ≡ take (b .length) (drop a img)
+  pub same-bytes : blockBytes b (references img b) (valueWords img b) ≡ take (b .length) (drop a img)
   unfolding references valueWords isConversion blockAt fieldsAt valCount refCount
   same-bytes =
       let w = parsed-whole img a b whole in
+      let enough = parsed-is-read img a b whole .1 in
       let id = eqb-true (word32 img a) conversionId (w .conversion) in
       let all = block-part img h a (w .fits) id none (rw (w .same) at enough) (rw (w .same) at long) in
       let size : blockEnd img a - a ≡ b .length = omega arith in
@@ -147,13 +148,13 @@ module _ (img : List ℕ) (a : ℕ) (b : Block) (h : Bytes img) (whole : parsed 
       ∙ length-take-le (b .length) (drop a img) (omega (arith, length-drop a img, parsed-whole img a b whole .fits))
 
 -- writing it with its references and values, into an output with room: the block's bytes as the image has them, and behind them what was there
-pub write-parsed : (img : List ℕ) (a : ℕ) (b : Block) (out : List ℕ) → Bytes img → parsed img a ≡ Whole b → word32 img (a + 4) ≡ 0 → 4 ≤ b .links
+pub write-parsed : (img : List ℕ) (a : ℕ) (b : Block) (out : List ℕ) → Bytes img → parsed img a ≡ Whole b → word32 img (a + 4) ≡ 0
     → b .length + a ≡ blockEnd img a → b .length ≤ length out
     → writing b (references img b) (valueWords img b) out ≡ writeCall (written.Bytes (b .length)) (take (b .length) (drop a img) ++ drop (b .length) out)
-write-parsed img a b out h whole none enough long room =
+write-parsed img a b out h whole none long room =
     block-written b (references img b) (valueWords img b) out (b .length)
-    (few img a b h whole none enough long) (size img a b h whole none enough long) room
-    ∙ ap (λ (bs : List ℕ). writeCall (written.Bytes (b .length)) (bs ++ drop (b .length) out)) (same-bytes img a b h whole none enough long)
+    (few img a b h whole none long) (size img a b h whole none long) room
+    ∙ ap (λ (bs : List ℕ). writeCall (written.Bytes (b .length)) (bs ++ drop (b .length) out)) (same-bytes img a b h whole none long)
 
 -- ---- values that are no NaN may pass through floats
 abbrev pub NoNan : List ℕ → Type 0
@@ -168,10 +169,10 @@ float-form (w ∷ ws) h p =
 
 -- the same with the values as floats
 pub write-parsed-floats : (img : List ℕ) (a : ℕ) (b : Block) (out : List ℕ) → Bytes img → parsed img a ≡ Whole b → word32 img (a + 4) ≡ 0
-    → 4 ≤ b .links → b .length + a ≡ blockEnd img a → b .length ≤ length out → NoNan (valueWords img b)
+    → b .length + a ≡ blockEnd img a → b .length ≤ length out → NoNan (valueWords img b)
     → writing b (references img b) (throughFloats (valueWords img b)) out
     ≡ writeCall (written.Bytes (b .length)) (take (b .length) (drop a img) ++ drop (b .length) out)
 unfolding valueWords
-write-parsed-floats img a b out h whole none enough long room plain =
+write-parsed-floats img a b out h whole none long room plain =
     rw (float-form (valueWords img b) (words-small img h (b .firstval) (b .valcount)) plain)
-    (write-parsed img a b out h whole none enough long room)
+    (write-parsed img a b out h whole none long room)

@@ -112,8 +112,8 @@ impl Applied {
 ///
 /// # Errors
 ///
-/// Refusals 1 to 6 of the check, then 7 [`Refusal::Formula`], then 8 [`Refusal::Room`]. The last two carry the visits, and whether a malformed table
-/// was consulted.
+/// Refusals 1 to 6 and 18 of the check, then 7 [`Refusal::Formula`], then 8 [`Refusal::Room`]. The last two carry the visits, and whether a malformed
+/// table was consulted.
 ///
 /// ```
 /// use mdf_conversion::{apply, Answer, Refusal, Stopped, Value, Visits};

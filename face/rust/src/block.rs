@@ -21,7 +21,7 @@ pub struct PhysicalRange {
 pub struct ConversionBlock {
     /// The block's length in bytes, as written in its header.
     pub block_len: u64,
-    /// The link count, as written in the header.
+    /// The link count, as written in the header; of a parsed block at least 4.
     pub links_nr: u64,
     /// The link to the name.
     pub cc_tx_name: Option<u64>,
@@ -37,7 +37,7 @@ pub struct ConversionBlock {
     pub cc_precision: u8,
     /// The flags.
     pub cc_flags: u16,
-    /// The reference count field. The block has `links_nr` - 4 references, none below 4 links.
+    /// The reference count field. A parsed block has `links_nr` - 4 references.
     pub cc_ref_count: u16,
     /// How many values the block has.
     pub cc_val_count: u16,
@@ -68,7 +68,7 @@ impl ConversionBlock {
     ///
     /// # Errors
     ///
-    /// Refusal 1, 2 or 4.
+    /// Refusal 1, 2, 18 or 4, tested in that order.
     ///
     /// ```
     /// use mdf_conversion::{ConversionBlock, ConversionType, PhysicalRange, Refusal};
@@ -83,6 +83,11 @@ impl ConversionBlock {
     ///
     /// // A text stands at 64.
     /// assert_eq!(ConversionBlock::parse(&image, 64), Err(Refusal::NotConversion(64)));
+    ///
+    /// // Fuel rate with a link count of 3, and cut off within its links.
+    /// let mut few = image[688..][..40].to_vec();
+    /// few[16] = 3;
+    /// assert_eq!(ConversionBlock::parse(&few, 0), Err(Refusal::FewLinks(0)));
     /// # Ok::<(), Refusal>(())
     /// ```
     pub fn parse(image: &[u8], address: u64) -> Result<ConversionBlock, Refusal> {
@@ -240,9 +245,9 @@ impl ConversionBlock {
         }
     }
 
-    // Of a parsed block, which lies whole in its image, so that the number fits.
+    // Of a parsed block, which has four links or more and lies whole in its image, so that the number fits.
     fn references(&self) -> usize {
-        self.links_nr.saturating_sub(4) as usize
+        (self.links_nr - 4) as usize
     }
 
     fn of_raw(block: &raw::Block) -> ConversionBlock {

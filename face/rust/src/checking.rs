@@ -8,7 +8,8 @@ use crate::refusal::Refusal;
 ///
 /// # Errors
 ///
-/// The first refusal met, of 1 to 6.
+/// The first refusal met, of 1 to 6 and 18: at the root in the order 1, 2, 3, 18, 4, at a nested block 3, 18, 4, 5. A link to a block on the current
+/// path is 6, and that block is not begun again.
 ///
 /// ```
 /// use mdf_conversion::{check, Refusal};

@@ -22,8 +22,8 @@ pub struct Stopped {
 
 /// Why a call refused. A call that refuses leaves its output buffer as it was.
 ///
-/// 1 to 6 carry the address of the block or link. 7, and 8 where it comes from applying, carry the visits of both walks, and whether a malformed table
-/// was consulted.
+/// 1 to 6 and 18 carry the address of the block or link. 7, and 8 where it comes from applying, carry the visits of both walks, and whether a
+/// malformed table was consulted.
 ///
 /// ```
 /// use mdf_conversion::{apply, Refusal, Value, Visits};
@@ -67,6 +67,8 @@ pub enum Refusal {
     Width,
     /// 16: the number of an [`Edition`](crate::Edition) is neither 410 nor 420.
     Edition,
+    /// 18: a ##CC block whose link count is below 4. The program `repair_block` writes it with 4.
+    FewLinks(u64),
 }
 
 impl Refusal {
@@ -85,6 +87,7 @@ impl Refusal {
             Refusal::Count => 9,
             Refusal::Width => 11,
             Refusal::Edition => 16,
+            Refusal::FewLinks(_) => 18,
         }
     }
 
@@ -103,10 +106,11 @@ impl Refusal {
             Refusal::Count => "Count",
             Refusal::Width => "Width",
             Refusal::Edition => "Edition",
+            Refusal::FewLinks(_) => "FewLinks",
         }
     }
 
-    /// The address of the block or link, for 1 to 6.
+    /// The address of the block or link, for 1 to 6 and 18.
     #[must_use]
     pub fn address(&self) -> Option<u64> {
         match *self {
@@ -115,7 +119,8 @@ impl Refusal {
             | Refusal::Limit(address)
             | Refusal::Short(address)
             | Refusal::Deep(address)
-            | Refusal::Loop(address) => Some(address),
+            | Refusal::Loop(address)
+            | Refusal::FewLinks(address) => Some(address),
             Refusal::Formula(_) | Refusal::Room(_) | Refusal::Count | Refusal::Width | Refusal::Edition => None,
         }
     }
@@ -151,6 +156,7 @@ impl Refusal {
             6 => Refusal::Loop(address),
             11 => Refusal::Width,
             16 => Refusal::Edition,
+            18 => Refusal::FewLinks(address),
             _ => unreachable!("the archive refuses with the number {number}"),
         }
     }

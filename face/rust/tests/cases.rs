@@ -1,4 +1,4 @@
-//! Every line of document 01's "Cases", every refusal from 1 to 9 and 11, malformed tables, widths and editions, through the safe functions.
+//! Every line of document 01's "Cases", every refusal from 1 to 9, 11 and 18, malformed tables, widths and editions, through the safe functions.
 #[allow(dead_code)]
 mod image;
 
@@ -488,27 +488,217 @@ fn reading_by_place() {
     }
 }
 
+/// Parsing the block at the refusal's address is refused, and so is reading by place.
+fn is_unreadable(image: &Image, refusal: Refusal) {
+    let address = refusal.address().unwrap();
+    for place in [0, 1, u64::MAX] {
+        assert_eq!(ConversionBlock::reference(&image.bytes, address, place), Err(refusal));
+        assert_eq!(ConversionBlock::value_word(&image.bytes, address, place), Err(refusal));
+    }
+    assert_eq!(ConversionBlock::parse(&image.bytes, address), Err(refusal));
+    assert_eq!(ConversionBlock::cc_ref(&image.bytes, address).err(), Some(refusal));
+    assert_eq!(ConversionBlock::cc_val(&image.bytes, address).err(), Some(refusal));
+}
+
 #[test]
 fn reading_by_place_refuses_as_parsing_does() {
     let mut image = Image::new();
-    let text = image.text(b"no conversion");
-    let few = image.block(7, &[], &[]);
-    image.bytes[few as usize + 16] = 3; // links, below the four that are read even so
+    let (text, few) = (image.text(b"no conversion"), image.block(7, &[], &[]));
+    image.set_link_count(few, 3);
     let cut = image.block(1, &[], &[0.0, 1.0]);
     image.bytes.pop();
     let end = image.bytes.len() as u64;
-    for refusal in [Refusal::Outside(end), Refusal::Outside(u64::MAX), Refusal::NotConversion(text), Refusal::Short(cut)] {
-        let address = refusal.address().unwrap();
-        for place in [0, 1, u64::MAX] {
-            assert_eq!(ConversionBlock::reference(&image.bytes, address, place), Err(refusal));
-            assert_eq!(ConversionBlock::value_word(&image.bytes, address, place), Err(refusal));
-        }
-        assert_eq!(ConversionBlock::parse(&image.bytes, address), Err(refusal));
-        assert_eq!(ConversionBlock::cc_ref(&image.bytes, address).err(), Some(refusal));
-        assert_eq!(ConversionBlock::cc_val(&image.bytes, address).err(), Some(refusal));
+    let refusals = [Refusal::Outside(end), Refusal::Outside(u64::MAX), Refusal::NotConversion(text), Refusal::FewLinks(few), Refusal::Short(cut)];
+    for refusal in refusals {
+        is_unreadable(&image, refusal);
     }
-    assert_eq!(ConversionBlock::reference(&image.bytes, few, 0), Ok(None));
-    assert_eq!(ConversionBlock::cc_ref(&image.bytes, few).unwrap().len(), 0);
+}
+
+/// Each call on the block at the refusal's address is refused. The type 10 entry, which names no refusal, shows the question.
+fn is_refused_alone(image: &Image, refusal: Refusal) {
+    let (address, question) = (refusal.address().unwrap(), b"E1".as_slice());
+    is_unreadable(image, refusal);
+    is_unsound(image, address, LIMIT, refusal);
+    assert!(core::ptr::eq(translate(&image.bytes, address, LIMIT, question), question));
+}
+
+#[test]
+fn fewer_than_four_links_are_refused() {
+    for kind in (0..=12).chain([42]) {
+        let mut image = Image::new();
+        let block = image.block(kind, &[], &[0.0, 0.125]);
+        for links in 0..4 {
+            image.set_link_count(block, links);
+            is_refused_alone(&image, Refusal::FewLinks(block));
+        }
+        image.set_link_count(block, 4);
+        assert_eq!(check(&image.bytes, block, LIMIT), Ok(1));
+        assert_eq!(ConversionBlock::parse(&image.bytes, block).unwrap().links_nr, 4);
+        // The whole count decides, not its low bytes, and it has no sign.
+        for links in [1 << 8, (1 << 16) + 3, 1 << 32, (1 << 32) + 3, 1 << 63, (1 << 63) + 3, u64::MAX] {
+            image.set_link_count(block, links);
+            is_refused_alone(&image, Refusal::Short(block));
+        }
+    }
+}
+
+#[test]
+fn four_and_five_links_are_taken() {
+    let mut image = Image::new();
+    let (four, five) = (image.block(1, &[], &[0.0, 0.125]), image.block(1, &[0], &[0.0, 0.125]));
+    for (block, links) in [(four, 4), (five, 5)] {
+        answers(&image, block, Signed(-3), Answer::Number(-0.375));
+        assert_eq!(ConversionBlock::parse(&image.bytes, block).unwrap().links_nr, links);
+        assert_eq!(ConversionBlock::cc_ref(&image.bytes, block).unwrap().len() as u64, links - 4);
+        assert!(ConversionBlock::cc_val(&image.bytes, block).unwrap().eq([0.0, 0.125]));
+    }
+}
+
+#[test]
+fn fewer_than_four_links_in_a_nested_block() {
+    for kind in [0, 1, 3, 7, 8, 9, 10, 11, 42] {
+        let mut image = Image::new();
+        let leaf = image.block(1, &[], &[0.0, 0.125]);
+        let above = image.block(kind, &[leaf], &[]);
+        let top = image.block(kind, &[above], &[]);
+        for links in 0..4 {
+            image.set_link_count(leaf, links);
+            is_unsound(&image, above, LIMIT, Refusal::FewLinks(leaf));
+            is_unsound(&image, top, LIMIT, Refusal::FewLinks(leaf));
+        }
+        image.set_link_count(leaf, 4);
+        assert_eq!((check(&image.bytes, above, LIMIT), check(&image.bytes, top, LIMIT)), (Ok(2), Ok(3)));
+    }
+}
+
+#[test]
+fn fewer_than_four_links_before_a_formula_and_room() {
+    let mut image = Image::new();
+    let (text, few) = (image.text(b"on"), image.block(0, &[], &[]));
+    let formula = image.block(3, &[few], &[]);
+    let (shown, stopped_at) = (image.block(7, &[text, few], &[1.0]), image.block(7, &[formula, few], &[1.0]));
+    assert_eq!(apply_within(&image, shown, LIMIT, Unsigned(1), 1).0, Err(Refusal::Room(Some(stopped(2, 1)))));
+    assert_eq!(apply_within(&image, stopped_at, LIMIT, Unsigned(1), 1).0, Err(Refusal::Formula(stopped(4, 2))));
+    image.set_link_count(few, 3);
+    for root in [shown, stopped_at] {
+        is_unsound(&image, root, LIMIT, Refusal::FewLinks(few));
+        assert_eq!(apply_within(&image, root, LIMIT, Unsigned(1), 1).0, Err(Refusal::FewLinks(few)));
+        assert_eq!(apply_within(&image, root, LIMIT, Unsigned(1), 0).0, Err(Refusal::FewLinks(few)));
+    }
+}
+
+#[test]
+fn a_translation_above_fewer_than_four_links_is_the_question() {
+    let mut image = Image::new();
+    let (key, low, few) = (image.text(b"E1"), image.text(b"oil pressure low"), image.block(1, &[], &[]));
+    let middle = image.block(7, &[few], &[]);
+    for root in [image.block(10, &[key, low, few], &[]), image.block(10, &[key, low, middle], &[])] {
+        for links in 0..4 {
+            image.set_link_count(few, links);
+            assert_eq!(translate(&image.bytes, root, LIMIT, b"E1"), b"E1");
+        }
+        image.set_link_count(few, 4);
+        assert_eq!(translate(&image.bytes, root, LIMIT, b"E1"), b"oil pressure low");
+    }
+}
+
+#[test]
+fn fewer_than_four_links_and_the_limit() {
+    let mut image = Image::new();
+    let (leaf, few) = (image.block(1, &[], &[]), image.block(1, &[], &[]));
+    image.set_link_count(few, 3);
+    let middle = image.block(7, &[few], &[]);
+    let root = image.block(7, &[middle], &[]);
+    let pair = image.block(8, &[leaf, leaf], &[]);
+    let behind = image.block(8, &[pair, pair, few], &[]);
+    // The visits begun before the block.
+    for (address, before) in [(few, 0), (middle, 1), (root, 2), (behind, 7)] {
+        is_unsound(&image, address, before, Refusal::Limit(few));
+        is_unsound(&image, address, before + 1, Refusal::FewLinks(few));
+        is_unsound(&image, address, u32::MAX, Refusal::FewLinks(few));
+    }
+    is_unsound(&image, root, 1, Refusal::Limit(middle));
+    is_unsound(&image, behind, 6, Refusal::Limit(leaf));
+}
+
+#[test]
+fn fewer_than_four_links_and_the_depth() {
+    for count in [21, 22] {
+        let mut image = Image::new();
+        let (root, last) = image.row(count, 1);
+        let with_four_links = if count == 21 { Ok(21) } else { Err(Refusal::Deep(last)) };
+        assert_eq!(check(&image.bytes, root, LIMIT), with_four_links);
+        for links in 0..4 {
+            image.set_link_count(last, links);
+            is_unsound(&image, root, LIMIT, Refusal::FewLinks(last));
+        }
+        is_unsound(&image, root, count as u32 - 1, Refusal::Limit(last));
+        is_unsound(&image, root, count as u32, Refusal::FewLinks(last));
+    }
+}
+
+#[test]
+fn fewer_than_four_links_and_an_image_that_ends_inside() {
+    let mut image = Image::new();
+    let root = image.block(7, &[0], &[]);
+    let cut = image.block(1, &[], &[0.0, 0.125]);
+    image.set_link(root, 4, cut); // the first reference
+    while image.bytes.len() as u64 > cut + 24 {
+        image.bytes.pop();
+        for (links, refusal) in [(0, Refusal::FewLinks(cut)), (3, Refusal::FewLinks(cut)), (4, Refusal::Short(cut))] {
+            image.set_link_count(cut, links);
+            is_refused_alone(&image, refusal);
+            is_unsound(&image, root, LIMIT, refusal);
+        }
+    }
+    // The header does not fit, so that the link leads to no block.
+    image.set_link_count(cut, 3);
+    image.bytes.pop();
+    is_refused_alone(&image, Refusal::Outside(cut));
+    assert_eq!(check(&image.bytes, root, LIMIT), Ok(1));
+}
+
+#[test]
+fn the_first_fault_in_walking_order_is_given() {
+    let mut image = Image::new();
+    let (few, second, cut) = (image.block(7, &[], &[]), image.block(7, &[], &[]), image.block(7, &[], &[]));
+    for (block, links) in [(few, 3), (second, 0), (cut, 1 << 60)] {
+        image.set_link_count(block, links);
+    }
+    let (chain, deepest) = image.row(21, 1);
+    let inner = image.block(7, &[few], &[]);
+    let faults = [(cut, Refusal::Short(cut)), (chain, Refusal::Deep(deepest)), (second, Refusal::FewLinks(second))];
+    for (fault, refusal) in faults {
+        let (before, behind) = (image.block(7, &[fault, inner], &[]), image.block(7, &[inner, fault], &[]));
+        is_unsound(&image, before, LIMIT, refusal);
+        is_unsound(&image, behind, LIMIT, Refusal::FewLinks(few));
+    }
+    let own = image.bytes.len() as u64;
+    image.block(7, &[own, inner], &[]);
+    is_unsound(&image, own, LIMIT, Refusal::Loop(own));
+    let own = image.bytes.len() as u64;
+    image.block(7, &[inner, own], &[]);
+    is_unsound(&image, own, LIMIT, Refusal::FewLinks(few));
+    // Of a block with few links no reference is looked at.
+    image.set_link_count(own, 3);
+    is_unsound(&image, own, LIMIT, Refusal::FewLinks(own));
+}
+
+#[test]
+fn fewer_than_four_links_where_the_check_does_not_walk() {
+    let mut image = Image::new();
+    let (other, few, on) = (image.block(1, &[], &[]), image.block(1, &[], &[]), image.text(b"on"));
+    image.bytes[other as usize..][..4].copy_from_slice(b"##CD");
+    image.set_link_count(other, 3);
+    image.set_link_count(few, 3);
+    is_refused_alone(&image, Refusal::NotConversion(other));
+    let root = image.block(7, &[other], &[]);
+    assert_eq!(check(&image.bytes, root, LIMIT), Ok(1));
+    // A name that leads to such a block gives no text, and no fixed link is walked.
+    let shown = image.block(7, &[on], &[1.0]);
+    (0..4).for_each(|place| image.set_link(shown, place, few));
+    let groups = image.named(11, 0, &[shown], &[1]);
+    gives_text(&image, groups, Unsigned(1), b"on", visits(2, 2));
 }
 
 #[test]
@@ -549,11 +739,13 @@ fn refusals_have_number_name_address_and_visits() {
         (Refusal::Count, "refused 9 Count", None),
         (Refusal::Width, "refused 11 Width", None),
         (Refusal::Edition, "refused 16 Edition", None),
+        (Refusal::FewLinks(1234), "refused 18 FewLinks at 1234", None),
     ];
-    for (number, (refusal, shown, stopped)) in (1..=9).chain([11, 16]).zip(all) {
+    for (number, (refusal, shown, stopped)) in (1..=9).chain([11, 16, 18]).zip(all) {
         assert_eq!((refusal.number(), refusal.to_string().as_str(), refusal.visits()), (number, shown, stopped.map(|s| s.visits)));
         assert_eq!(refusal.malformed(), stopped.is_some_and(|s| s.malformed));
-        assert_eq!(refusal.address().is_some(), number <= 6);
+        assert_eq!(refusal.address().is_some(), number <= 6 || number == 18);
     }
+    assert_eq!((Refusal::FewLinks(1234).name(), Refusal::FewLinks(1234).address()), ("FewLinks", Some(1234)));
     assert_eq!((Refusal::Room(None).visits(), Refusal::Room(None).malformed()), (None, false));
 }

@@ -105,6 +105,81 @@ fn an_odd_range_table_speaks_up() {
     assert_eq!((lines.status, lines.out.as_str()), (3, printed));
 }
 
+/// Refused with 18: what is printed, status 3, and one line on standard error that names the block and what repairs it.
+fn names_the_repair(words: &[&str], input: &[u8], out: &str, block: u64) {
+    let ended = run_with(words, input);
+    let error = format!("mdf-convert: the block at {block} has fewer than four links; the program repair_block writes it with four\n");
+    assert_eq!((ended.status, ended.out.as_str(), ended.error), (3, out, error), "{words:?}");
+}
+
+#[test]
+fn fewer_than_four_links() {
+    let mut image = Image::new();
+    let few = image.block(1, &[], &[0.0, 0.125]);
+    let middle = image.block(7, &[few], &[]);
+    let root = image.block(8, &[middle], &[]);
+    for links in 0..4 {
+        image.set_link_count(few, links);
+        let file = Temporary::new("few", &image);
+        let refused = format!("refused 18 FewLinks at {few}\n");
+        for address in [few, middle, root].map(|address| address.to_string()) {
+            for (kind, value) in [("unsigned", "1"), ("signed", "-1"), ("float", "0.5"), ("text", "on")] {
+                let one = format!("{refused}checked 0 applied 0\n");
+                names_the_repair(&[file.path(), &address, kind, value], b"", &one, few);
+                names_the_repair(&[file.path(), &address, kind, value, "--width=4", "--edition=4.10"], b"", &one, few);
+            }
+            // Of many values once.
+            names_the_repair(&[file.path(), &address, "signed", "-"], b"1\n-1\n0\n", &refused.repeat(3), few);
+            let none = run_with(&[file.path(), &address, "signed", "-"], b"");
+            assert_eq!((none.status, none.out.as_str(), none.error.as_str()), (0, "", ""));
+        }
+    }
+    image.set_link_count(few, 4);
+    let file = Temporary::new("four", &image);
+    let ended = run(&[file.path(), &root.to_string(), "signed", "-3"]);
+    assert_eq!((ended.status, ended.error.as_str()), (0, ""));
+    assert_eq!(ended.out, "number -0.375\nchecked 3 applied 3, odd range table\n");
+}
+
+#[test]
+fn fewer_than_four_links_among_the_fields() {
+    let mut image = Image::new();
+    let few = image.block(1, &[], &[0.0, 0.125]);
+    image.set_link_count(few, 3);
+    let (root, inverse) = (image.block(7, &[few], &[]), image.block(1, &[], &[]));
+    image.set_link(inverse, 3, few);
+    let file = Temporary::new("fields", &image);
+    let refused = format!("refused 18 FewLinks at {few}\n");
+    names_the_repair(&[file.path(), &few.to_string()], b"", &refused, few);
+    let fields = format!(
+        "{refused}type: 7 value to text\nname: none\nunit: none\ncomment: none\ninverse: none\nprecision: 0\nflags: 0\nrange: none\n\
+        block length: 72\nlink count: 5\nreference count field: 1\nreferences: 1\n  0: conversion at {few}\nvalues: 0\n"
+    );
+    names_the_repair(&[file.path(), &root.to_string()], b"", &fields, few);
+    // The inverse is shown and not walked.
+    let ended = run(&[file.path(), &inverse.to_string()]);
+    assert_eq!((ended.status, ended.error.as_str()), (0, ""));
+    assert!(ended.out.contains(&format!("\ninverse: conversion at {few}\n")), "{}", ended.out);
+}
+
+#[test]
+fn fewer_than_four_links_and_another_fault() {
+    let mut image = Image::new();
+    let few = image.block(1, &[], &[0.0, 0.125]);
+    image.set_link_count(few, 3);
+    let root = image.block(7, &[few], &[]);
+    let file = Temporary::new("fault", &image);
+    let root = root.to_string();
+    for (words, printed) in [("--limit=1", format!("refused 3 Limit at {few}\n")), ("--width=65", "refused 11 Width\n".into())] {
+        let ended = run(&[file.path(), &root, "unsigned", "1", words]);
+        assert_eq!((ended.status, ended.out, ended.error.as_str()), (3, format!("{printed}checked 0 applied 0\n"), ""));
+    }
+    // A line that is no value ends the input, and is the one thing that is said.
+    let lines = run_with(&[file.path(), &root, "unsigned", "-"], b"1\nx\n");
+    assert_eq!((lines.status, lines.out), (2, format!("refused 18 FewLinks at {few}\n")));
+    assert_eq!(lines.error, "mdf-convert: line 2 of standard input: \"x\" is no unsigned whole number\n");
+}
+
 #[test]
 fn a_chain_too_deep() {
     let mut image = Image::new();
@@ -161,6 +236,8 @@ fn help() {
         "KIND -",
         "unsigned, signed, float or text",
         "refused 5 Deep at 1234",
+        "with the address that 1 to 6 and 18 have",
+        "\n  18 FewLinks       the block has fewer than four links; the program repair_block writes it with four\n",
         "\n  checked 2 applied 2, odd range table\n  text slow\todd range table\n",
         "Exit status",
         "from 1e16 on and below 1e-5",

@@ -4,7 +4,8 @@ mod command_line;
 #[allow(dead_code)]
 mod image;
 
-use command_line::{complains, on_sample, run_with, start, Ended, PROGRAM, SAMPLE};
+use command_line::{complains, on_sample, run_with, start, Ended, Temporary, PROGRAM, SAMPLE};
+use image::Image;
 use std::fs;
 use std::io::{BufRead, BufReader, Write};
 use std::os::unix::net::UnixListener;
@@ -170,4 +171,17 @@ fn an_output_that_is_no_longer_read_is_status_1() {
     child.stdin.take().unwrap().write_all(b"8\n").unwrap();
     let ended: Ended = child.wait_with_output().unwrap().into();
     assert_eq!((ended.status, ended.error.as_str()), (1, "mdf-convert: standard output: Broken pipe (os error 32)\n"));
+}
+
+#[test]
+fn a_line_that_cannot_be_written_leaves_the_status() {
+    let mut image = Image::new();
+    let few = image.block(1, &[], &[]);
+    image.set_link_count(few, 3);
+    let file = Temporary::new("few", &image);
+    let words = format!("'{}' {few} unsigned 1", file.path());
+    assert_eq!(redirected(&words, "2>&-").status, 3);
+    // Without an answer only that is said.
+    let ended = redirected(&words, ">&-");
+    assert_eq!((ended.status, ended.error.as_str()), (1, "mdf-convert: standard output: Bad file descriptor (os error 9)\n"));
 }

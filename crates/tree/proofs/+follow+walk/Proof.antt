@@ -2,6 +2,7 @@
 -- all of the block's references from the loop's start is the answer for those that are left from the present visits. Assumes nothing.
 use borrow.Author.Needs.{needs}
 use mathlib.Core.Path.{_≡_, refl, sym, ap, subst, _∙_}
+use mathlib.Core.Bool.{false}
 use mathlib.Core.List.{List, [], _∷_, _++_}
 use Prim.Native.Nat.{ℕ, suc, _+_, _-_, _*_, _<_, _≤_}
 use native.Mathlib.Omega.{arith}
@@ -10,17 +11,19 @@ use borrow.Fn.Kinds.{In}
 use borrow.Fn.PlainCycle.{Measures, is, falls, and}
 use Rattle.words.specs.Words.{words}
 use Rattle.words.proofs.u64_at.Reads as u64-at-reads
+use Rattle.blocks.specs.Block.{fewLinks}
 use Rattle.blocks.specs.View.{seen}
 use Rattle.blocks.specs.declared.view.Seen.the-variants.{Open}
 use Rattle.blocks.proofs.Looking.{seen-room}
 use Rattle.blocks.proofs.view.View.look.Reads as look-reads
+use Rattle.blocks.proofs.Block.has_few_links.Reads as has-few-links-reads
 use Rattle.tree.specs.Walk.{Walk, walkLinks, classed, answer, walk as walkOf}
 use Rattle.tree.specs.Follow.{Standing, Known, Led}
 use Rattle.tree.specs.declared.Link.the-variants.{Nested}
 use Rattle.tree.specs.declared.Checked.{Checked}
 use Rattle.tree.proofs.Answers.{answer-nothing, accepted}
 use Rattle.tree.proofs.Following.{reach-nowhere, reach-back, reach-nested, known-none, known-now, reach-known, goes-on, goes-off}
-use Rattle.tree.proofs.Blocks.{walk-full, walk-short, walk-deep, walk-open, words-more, words-none, words-all}
+use Rattle.tree.proofs.Blocks.{walk-full, walk-few, walk-short, walk-deep, walk-open, words-more, words-none, words-all}
 use Rattle.tree.proofs.Paths.{nested-fits, nested-conversion, standing-more, written, kept}
 use Rattle.tree.proofs.follow.Reads as follow
 use Rattle.tree.proofs.follow.Kinds as follow-kinds
@@ -54,7 +57,7 @@ abbrev follow-calls : ℕ → follow-lts.Claims
 follow-calls t = (class-reads.Asked, class-reads.Learnt, walk-below t, walk.Post)
 
 abbrev walk-calls : ℕ → walk-lts.Claims
-walk-calls t = (look-reads.Asked, look-reads.Learnt, u64-at-reads.Asked, u64-at-reads.Learnt, follow-below t, follow.Post)
+walk-calls t = (has-few-links-reads.Asked, has-few-links-reads.Learnt, look-reads.Asked, look-reads.Learnt, u64-at-reads.Asked, u64-at-reads.Learnt, follow-below t, follow.Post)
 
 module _ (t : ℕ) where
   abbrev Follow : Type 0
@@ -171,7 +174,7 @@ abbrev rest : List ℕ → ℕ → List ℕ → List ℕ → Walk
 rest img depth path rs = walkLinks (walkOf (21 - (depth + 1)) img (take (depth + 1) path)) (classed img (take (depth + 1) path)) rs
 
 abbrev Inv : walk-lts.InvT-loop
-Inv image at path₀ depth visits limit from refs tally₀ i₀ path tally i =
+Inv image at path₀ depth visits limit from few refs tally₀ i₀ path tally i =
     (i ≤ refs)
     × (tally .visits ≤ limit)
     × (length path ≡ 21)
@@ -181,7 +184,7 @@ Inv image at path₀ depth visits limit from refs tally₀ i₀ path tally i =
     ≡ answer limit (tally .visits) (rest image depth path₀ (words image (from + 56 + 8 * i) (refs - i))))
 
 abbrev μ : walk-lts.MeasureT-loop
-μ image at path₀ depth visits limit from refs tally₀ i₀ path tally i = refs - i
+μ image at path₀ depth visits limit from few refs tally₀ i₀ path tally i = refs - i
 
 module _ (t : ℕ) where
   abbrev Start : Type 0
@@ -190,8 +193,8 @@ module _ (t : ℕ) where
   abbrev After-view : Type 0
   After-view = walk-lts.After-view (walk-calls t) (walk-at t) walk.Post Inv μ
 
-  abbrev Else2 : Type 0
-  Else2 = walk-lts.Else2 (walk-calls t) (walk-at t) walk.Post Inv μ
+  abbrev Else3 : Type 0
+  Else3 = walk-lts.Else3 (walk-calls t) (walk-at t) walk.Post Inv μ
 
   abbrev After-u64-at : Type 0
   After-u64-at = walk-lts.After-u64-at (walk-calls t) (walk-at t) walk.Post Inv μ
@@ -204,49 +207,53 @@ module _ (t : ℕ) where
   asked s = answer (s .args .limit) (s .args .visits) (walkOf (21 - s .args .depth) (s .args .image .now) (above s) (s .args .at))
 
   abbrev begun : After-view → Start
-  begun c = c .before .before .before .before .before .before
+  begun c = c .before .before .before .before .before .before .before .before
 
   open-is : (c : After-view) → seen (begun c .args .image .now) (begun c .args .at) ≡ Open (c .view .given .0 .0)
   open-is c = sym (c .before .before .look .ensures) ∙ c .view .given .1
 
+  has-links : (c : After-view) → fewLinks (begun c .args .image .now) (begun c .args .at) ≡ false
+  has-links c = sym (c .before .before .before .before .before .has-few-links .ensures) ∙ c .before .before .before .if2 .left
+
   enough : (c : After-view) → begun c .args .at + 64 + 8 * c .view .given .0 .0 .refs ≤ length (begun c .args .image .now)
   enough c = seen-room _ _ _ (open-is c)
 
-  abbrev start : Else2 → Start
-  start c = c .before .before .before .before .before .before .before .before
+  abbrev start : Else3 → Start
+  start c = c .before .before .before .before .before .before .before .before .before .before
 
-  abbrev refs : Else2 → ℕ
+  abbrev refs : Else3 → ℕ
   refs c = c .before .before .view .given .0 .0 .refs
 
   -- the path with the block itself
-  abbrev own : Else2 → List ℕ
+  abbrev own : Else3 → List ℕ
   own c = set (start c .args .path .now) (start c .args .depth) (start c .args .at)
 
-  own-is : (c : Else2) → take (start c .args .depth + 1) (own c) ≡ above (start c) ++ (start c .args .at ∷ [])
+  own-is : (c : Else3) → take (start c .args .depth + 1) (own c) ≡ above (start c) ++ (start c .args .at ∷ [])
   own-is c = let s = start c in written (s .args .path .now) (s .args .depth) (s .args .at) (omega (arith, s .pre .1 .0 .0, s .pre .1 .0 .1))
 
-  stands : (c : Else2) → Standing (start c .args .image .now) (take (start c .args .depth + 1) (own c))
+  stands : (c : Else3) → Standing (start c .args .image .now) (take (start c .args .depth + 1) (own c))
   stands c =
       let s = start c in
       let img = s .args .image .now in
       subst (Standing img) (sym (own-is c)) (standing-more img (above s) (s .args .at) (s .pre .1 .1 .2) (s .pre .1 .1 .0) (s .pre .1 .1 .1))
 
   -- the answer for a list of references after n visits
-  abbrev from : Else2 → ℕ → List ℕ → Checked
+  abbrev from : Else3 → ℕ → List ℕ → Checked
   from c n rs = answer (start c .args .limit) n (rest (start c .args .image .now) (start c .args .depth) (own c) rs)
 
   -- at the loop's start
-  opens : (c : Else2)
+  opens : (c : Else3)
       → asked (start c) ≡ from c (start c .args .visits + 1) (words (start c .args .image .now) (start c .args .at + 56) (refs c))
   opens c =
       let s = start c .args in
       let img = s .image .now in
       let m = 21 - (s .depth + 1) in
       let more : 21 - s .depth ≡ suc m = omega (arith, start c .pre .1 .0 .1) in
-      walk-open img (above (start c)) (s .at) (s .limit) (s .visits) (21 - s .depth) m (c .before .before .view .given .0 .0) (omega arith) more (open-is (c .before .before))
+      let k = c .before .before in
+      walk-open img (above (start c)) (s .at) (s .limit) (s .visits) (k .view .given .0 .0) (omega arith) (has-links k) (open-is k) (21 - s .depth) m more
       ∙ ap (λ (p : List ℕ). answer (s .limit) (s .visits + 1) (walkLinks (walkOf m img p) (classed img p) (words img (s .at + 56) (refs c)))) (sym (own-is c))
 
-  abbrev w : After-u64-at → Else2
+  abbrev w : After-u64-at → Else3
   w c = c .before .before .before
 
   -- the references after the one that is read
@@ -274,10 +281,22 @@ module _ (t : ℕ) where
       let l = c .before .before .before .before .loop in
       subst (λ (p : List ℕ). Led (21 - (s .depth + 1)) (s .image .now) p (c .before .before .u64-at .result) (s .limit) (l .tally .visits) (c .follow .result)) (l .inv .3) (c .follow .ensures .0)
 
+  walk-has-few-links-requires : walk-lts.Need-has-few-links-requires (walk-calls t) (walk-at t) walk.Post Inv μ
+  walk-has-few-links-requires c κs = search needs
+
   walk-returns : walk-lts.Need-returns (walk-calls t) (walk-at t) walk.Post Inv μ
   walk-returns c =
-      let s = c .before .before .before in
+      let s = c .before .before .before .before in
       (sym (walk-full (s .args .image .now) (above s) (s .args .at) (s .args .limit) (s .args .visits) (21 - s .args .depth) (c .if1 .taken)), refl)
+
+  walk-returns-2 : walk-lts.Need-returns-2 (walk-calls t) (walk-at t) walk.Post Inv μ
+  walk-returns-2 c =
+      let s = c .before .before .before .before .before in (
+        sym
+            (walk-few (s .args .image .now) (above s) (s .args .at) (s .args .limit) (s .args .visits) (21 - s .args .depth) (omega arith)
+            (sym (c .before .before .has-few-links .ensures) ∙ c .if2 .taken)),
+        refl,
+      )
 
   walk-look-requires : walk-lts.Need-look-requires (walk-calls t) (walk-at t) walk.Post Inv μ
   walk-look-requires c κs = search needs
@@ -288,22 +307,23 @@ module _ (t : ℕ) where
   walk-enum-told : walk-lts.Need-enum-told (walk-calls t) (walk-at t) walk.Post Inv μ
   walk-enum-told c = search needs
 
-  walk-returns-2 : walk-lts.Need-returns-2 (walk-calls t) (walk-at t) walk.Post Inv μ
-  walk-returns-2 c =
-      let s = c .before .before .before .before .before .before in (
+  walk-returns-3 : walk-lts.Need-returns-3 (walk-calls t) (walk-at t) walk.Post Inv μ
+  walk-returns-3 c =
+      let s = c .before .before .before .before .before .before .before .before in (
         sym
             (walk-short (s .args .image .now) (above s) (s .args .at) (s .args .limit) (s .args .visits) (21 - s .args .depth) (omega arith)
+            (sym (c .before .before .before .before .before .has-few-links .ensures) ∙ c .before .before .before .if2 .left)
             (sym (c .before .before .look .ensures) ∙ c .enum-told .given .1)),
         refl,
       )
 
-  walk-returns-3 : walk-lts.Need-returns-3 (walk-calls t) (walk-at t) walk.Post Inv μ
-  walk-returns-3 c =
+  walk-returns-4 : walk-lts.Need-returns-4 (walk-calls t) (walk-at t) walk.Post Inv μ
+  walk-returns-4 c =
       let k = c .before .before in
       let s = begun k in (
         sym
-            (walk-deep (s .args .image .now) (above s) (s .args .at) (s .args .limit) (s .args .visits) (21 - s .args .depth) _ (omega arith)
-            (omega (arith, c .if2 .taken)) (open-is k)),
+            (walk-deep (s .args .image .now) (above s) (s .args .at) (s .args .limit) (s .args .visits) _ (omega arith) (has-links k) (open-is k)
+            (21 - s .args .depth) (omega (arith, c .if3 .taken))),
         refl,
       )
 
@@ -313,8 +333,8 @@ module _ (t : ℕ) where
   walk-slice-write-path : walk-lts.Need-slice-write-path (walk-calls t) (walk-at t) walk.Post Inv μ
   walk-slice-write-path c = search needs
 
-  walk-add-t22 : walk-lts.Need-add-t22 (walk-calls t) (walk-at t) walk.Post Inv μ
-  walk-add-t22 c = search needs
+  walk-add-t24 : walk-lts.Need-add-t24 (walk-calls t) (walk-at t) walk.Post Inv μ
+  walk-add-t24 c = search needs
 
   walk-loop-holds : walk-lts.Need-loop-holds (walk-calls t) (walk-at t) walk.Post Inv μ
   walk-loop-holds c =
@@ -368,8 +388,8 @@ module _ (t : ℕ) where
   walk-same-length : walk-lts.Need-same-length (walk-calls t) (walk-at t) walk.Post Inv μ
   walk-same-length c = search needs
 
-  walk-returns-4 : walk-lts.Need-returns-4 (walk-calls t) (walk-at t) walk.Post Inv μ
-  walk-returns-4 c =
+  walk-returns-5 : walk-lts.Need-returns-5 (walk-calls t) (walk-at t) walk.Post Inv μ
+  walk-returns-5 c =
       let f = c .before .before .before .before .before in
       let k = f .before .before in
       let s = start (w k) .args in
@@ -408,9 +428,9 @@ module _ (t : ℕ) where
   walk-same-length-2 : walk-lts.Need-same-length-2 (walk-calls t) (walk-at t) walk.Post Inv μ
   walk-same-length-2 c = search needs
 
-  walk-returns-5 : walk-lts.Need-returns-5 (walk-calls t) (walk-at t) walk.Post Inv μ
+  walk-returns-6 : walk-lts.Need-returns-6 (walk-calls t) (walk-at t) walk.Post Inv μ
   unfolding walkLinks
-  walk-returns-5 c =
+  walk-returns-6 c =
       let k = c .before .before in
       let s = start k .args in
       let l = c .before .loop in (
@@ -451,15 +471,17 @@ pub +follow+walk-spec : {M : Type 1} → statement M
     walk.Post
     Inv
     μ
+    (walk-has-few-links-requires t)
     (walk-returns t)
+    (walk-returns-2 t)
     (walk-look-requires t)
     (walk-enum-known-view t)
     (walk-enum-told t)
-    (walk-returns-2 t)
     (walk-returns-3 t)
+    (walk-returns-4 t)
     (walk-mul-path t)
     (walk-slice-write-path t)
-    (walk-add-t22 t)
+    (walk-add-t24 t)
     (walk-loop-holds t)
     (walk-add-u64-at t)
     (walk-mul-u64-at t)
@@ -470,9 +492,9 @@ pub +follow+walk-spec : {M : Type 1} → statement M
     (walk-enum-known-next t)
     (walk-enum-known-x t)
     (walk-same-length t)
-    (walk-returns-4 t)
+    (walk-returns-5 t)
     (walk-add-i t)
     (walk-loop-less t)
     (walk-loop-again t)
     (walk-same-length-2 t)
-    (walk-returns-5 t)
+    (walk-returns-6 t)

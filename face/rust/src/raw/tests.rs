@@ -61,6 +61,7 @@ fn numbers_of_rust() -> String {
         ("MDF_REFUSED_COUNT", Refusal::Count.number()),
         ("MDF_REFUSED_WIDTH", Refusal::Width.number()),
         ("MDF_REFUSED_EDITION", Refusal::Edition.number()),
+        ("MDF_REFUSED_FEW_LINKS", Refusal::FewLinks(0).number()),
         ("MDF_EDITION_410", Edition::Mdf410.number()),
         ("MDF_EDITION_420", Edition::Mdf420.number()),
     ];
@@ -111,10 +112,20 @@ fn applied_in(image: &[u8], address: u64, limit: u32, mode: Mode) -> Vec<Applied
     all.into()
 }
 
+// Raw torque, a linear conversion.
+const FEW_LINKS: usize = 608;
+
+// The sample image, in which that block has three links.
+fn sample() -> Vec<u8> {
+    let mut image = std::fs::read("../../samples/tractor.mdf").unwrap();
+    image[FEW_LINKS + 16] = 3;
+    image
+}
+
 // Whatever stands at the address, every kind of value is refused with this number, and all else is 0.
 fn is_refused(image: &[u8], width: u32, edition: u32, refusal: Refusal) {
-    // Bit groups, a linear conversion, a formula, a text, a block that is cut off, a loop, and no place of the image.
-    for address in [4288, 528, 816, 64, 2856, 3424, u64::MAX] {
+    // Bit groups, a linear conversion, a formula, a text, a block that is cut off, a loop, few links, and no place of the image.
+    for address in [4288, 528, 816, 64, 2856, 3424, FEW_LINKS as u64, u64::MAX] {
         for applied in [0, 4096].into_iter().flat_map(|limit| applied_in(image, address, limit, Mode { width, edition })) {
             let Applied { refusal: number, kind, number: x, length, address, checked, applied, malformed } = applied;
             assert_eq!((number, kind, x.to_bits(), length), (refusal.number(), 0, 0, 0), "width {width} edition {edition}");
@@ -128,7 +139,7 @@ const NO_WIDTHS: [u32; 3] = [0, 65, u32::MAX];
 
 #[test]
 fn an_edition_that_is_none_is_refused_before_the_width_and_the_check() {
-    let image = std::fs::read("../../samples/tractor.mdf").unwrap();
+    let image = sample();
     for edition in [0, 400, 409, 411, 419, 421, u32::MAX] {
         for width in [1, 4, 64].into_iter().chain(NO_WIDTHS) {
             is_refused(&image, width, edition, Refusal::Edition);
@@ -139,7 +150,7 @@ fn an_edition_that_is_none_is_refused_before_the_width_and_the_check() {
 
 #[test]
 fn a_width_that_is_none_is_refused_in_both_editions() {
-    let image = std::fs::read("../../samples/tractor.mdf").unwrap();
+    let image = sample();
     for edition in [410, 420] {
         for width in NO_WIDTHS {
             is_refused(&image, width, edition, Refusal::Width);
@@ -147,6 +158,18 @@ fn a_width_that_is_none_is_refused_in_both_editions() {
         }
         for applied in applied_in(&image, u64::MAX, 4096, Mode { width: 64, edition }) {
             assert_eq!((applied.refusal, applied.address), (1, u64::MAX));
+        }
+    }
+}
+
+#[test]
+fn few_links_are_refused_in_every_mode() {
+    let image = sample();
+    for mode in [410, 420].into_iter().flat_map(|edition| [1, 4, 64].map(|width| Mode { width, edition })) {
+        for applied in applied_in(&image, FEW_LINKS as u64, 1, mode) {
+            let Applied { refusal, kind, number, length, address, checked, applied, malformed } = applied;
+            assert_eq!((refusal, address), (18, FEW_LINKS as u64));
+            assert_eq!((kind, number.to_bits(), length, checked, applied, malformed), (0, 0, 0, 0, 0, 0));
         }
     }
 }

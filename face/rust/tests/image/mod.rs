@@ -45,6 +45,11 @@ impl Image {
         self.bytes[block as usize + 24 + 8 * place..][..8].copy_from_slice(&to.to_le_bytes());
     }
 
+    /// Sets the link count in a block's header, and nothing else.
+    pub fn set_link_count(&mut self, block: u64, links: u64) {
+        self.bytes[block as usize + 16..][..8].copy_from_slice(&links.to_le_bytes());
+    }
+
     /// A ##CC block with a name, references and the 64 bits of its values.
     pub fn named(&mut self, kind: u8, name: u64, refs: &[u64], words: &[u64]) -> u64 {
         let address = self.header(b"##CC", 64 + 8 * (refs.len() + words.len()), 4 + refs.len() as u64);

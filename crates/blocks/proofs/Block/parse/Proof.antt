@@ -1,41 +1,26 @@
 -- `blocks::Block::parse` meets its contract. Assumes nothing.
 use mathlib.Core.Path.{sym, _∙_}
 use denote.Ref.{now}
-use Rattle.common.proofs.Headers.{inside-fits}
-use Rattle.blocks.proofs.Opening.{parsed-outside, parsed-other, parsed-conversion}
+use Rattle.blocks.proofs.Opening.{parsed-retired, parsed-read}
 use borrow.Author.Needs.{needs}
 use Rattle.blocks.proofs.Block.parse.Statement.{statement}
 use Rattle.blocks.proofs.Block.parse.Tie as tie
 
-is-inside-requires : tie.Need-is-inside-requires
-is-inside-requires c κs = search needs
+is-retired-requires : tie.Need-is-retired-requires
+is-retired-requires c κs = search needs
 
-is-conversion-requires : tie.Need-is-conversion-requires
-is-conversion-requires c κs =
-    let a = c .before .before .before .args in
-    inside-fits (now (a .image)) (a .address) cc
-
-read-requires : tie.Need-read-requires
-read-requires c κs =
-    let a = c .before .before .before .before .before .args in
-    inside-fits (now (a .image)) (a .address) cc
+parse-for-repair-requires : tie.Need-parse-for-repair-requires
+parse-for-repair-requires c κs = search needs
 
 returns : tie.Need-returns
 returns c =
-    let a = c .before .before .before .before .before .before .args in
-    c .read .ensures ∙ sym (parsed-conversion (now (a .image)) (a .address) (cc) (cc))
+    let a = c .before .before .before .args in
+    sym (parsed-retired (now (a .image)) (a .address) cc)
 
 returns-2 : tie.Need-returns-2
 returns-2 c =
-    let a = c .before .before .before .before .before .args in
-    sym (parsed-other (now (a .image)) (a .address) (cc) (cc))
-
-returns-3 : tie.Need-returns-3
-returns-3 c =
-    let a = c .before .before .before .args in
-    sym (parsed-outside (now (a .image)) (a .address) cc)
+    let a = c .before .before .before .before .args in
+    c .parse-for-repair .ensures ∙ sym (parsed-read (now (a .image)) (a .address) cc)
 
 pub parse-spec : {M : Type 1} → statement M
-parse-spec =
-    tie.close
-    (tie.spec is-inside-requires is-conversion-requires read-requires returns returns-2 returns-3)
+parse-spec = tie.close (tie.spec is-retired-requires parse-for-repair-requires returns returns-2)

@@ -48,28 +48,28 @@ impl<'a> Converter<'a> {
         }
     }
 
-    /// Prints the answer for one value, and on a second line the visits and whether a malformed table was consulted. Answers whether nothing was
-    /// refused.
-    pub fn convert_one(mut self, value: Value<'_>, out: &mut impl Write) -> Result<bool, Stop> {
+    /// Prints the answer for one value, and on a second line the visits and whether a malformed table was consulted. Answers the refusal, if there is
+    /// one.
+    pub fn convert_one(mut self, value: Value<'_>, out: &mut impl Write) -> Result<Option<Refusal>, Stop> {
         let outcome = self.convert(value);
         let odd = if is_odd(&outcome) { ", odd range table" } else { "" };
         writeln!(out, "{}\n{}{odd}", self.shown(value, &outcome), visits(&outcome))?;
-        Ok(outcome.is_ok())
+        Ok(outcome.err())
     }
 
     /// Prints the answer for each line of the input, up to a line that is no value, and behind a tab whether a malformed table was consulted: no answer
-    /// has a tab of its own. Answers whether nothing was refused.
-    pub fn convert_lines(mut self, kind: Kind, input: impl Read, out: &mut impl Write) -> Result<bool, Stop> {
-        let (mut input, mut all_answered, mut count) = (BufReader::new(input), true, 0u64);
+    /// has a tab of its own. Answers the first refusal, if there is one: a refusal of the check is the first, since the check knows no value.
+    pub fn convert_lines(mut self, kind: Kind, input: impl Read, out: &mut impl Write) -> Result<Option<Refusal>, Stop> {
+        let (mut input, mut first_refusal, mut count) = (BufReader::new(input), None, 0u64);
         while let Some(bytes) = next_line(&mut input, out)? {
             count += 1;
             let value = value_of(kind, &bytes).map_err(|why| Stop::Bad(format!("line {count} of standard input: {why}")))?;
             let outcome = self.convert(value);
             let odd = if is_odd(&outcome) { "\todd range table" } else { "" };
             writeln!(out, "{}{odd}", self.shown(value, &outcome))?;
-            all_answered &= outcome.is_ok();
+            first_refusal = first_refusal.or(outcome.err());
         }
-        Ok(all_answered)
+        Ok(first_refusal)
     }
 }
 

@@ -2,11 +2,11 @@
 use crate::printing::{number, quoted};
 use crate::texts::{lead, Lead};
 use crate::Stop;
-use mdf_conversion::{check, ConversionBlock, ConversionType, PhysicalRange};
+use mdf_conversion::{check, ConversionBlock, ConversionType, PhysicalRange, Refusal};
 use std::io::Write;
 
-/// Prints the check's answer and, of a block that can be parsed, its fields. Answers whether the check accepts.
-pub fn describe(image: &[u8], address: u64, limit: u32, out: &mut impl Write) -> Result<bool, Stop> {
+/// Prints the check's answer and, of a block that can be parsed, its fields. Answers the check's refusal, if it does not accept.
+pub fn describe(image: &[u8], address: u64, limit: u32, out: &mut impl Write) -> Result<Option<Refusal>, Stop> {
     let checked = check(image, address, limit);
     match &checked {
         Ok(visits) => writeln!(out, "accepted, visits {visits}")?,
@@ -17,7 +17,7 @@ pub fn describe(image: &[u8], address: u64, limit: u32, out: &mut impl Write) ->
         print_references(image, address, out)?;
         print_values(image, address, block.cc_type, out)?;
     }
-    Ok(checked.is_ok())
+    Ok(checked.err())
 }
 
 fn print_fields(image: &[u8], block: &ConversionBlock, out: &mut impl Write) -> Result<(), Stop> {

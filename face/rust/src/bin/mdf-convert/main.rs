@@ -9,6 +9,7 @@ mod units;
 
 use arguments::{Arguments, Request, Task};
 use converting::Converter;
+use mdf_conversion::Refusal;
 use std::ffi::{OsStr, OsString};
 use std::fs::{self, FileType};
 use std::io::{self, BufWriter, Write};
@@ -44,7 +45,7 @@ One value gives two lines: the answer, then N and M, how many blocks were checke
   text Gear = Low|PTO       a text
   unchanged                 the value stays as it is
   unknown                   the value has no counterpart
-  refused 5 Deep at 1234    the number and name of a refusal, with the address that 1 to 6 have
+  refused 5 Deep at 1234    the number and name of a refusal, with the address that 1 to 6 and 18 have
   checked 2 applied 2       the second line: N and M
 
 A range to text (type 8) that is applied to a number and has no, one or an odd number of values is malformed: its first reference decides, whatever
@@ -71,6 +72,7 @@ the direction of writing, and of what is not UTF-8, each byte is written \\xNN.
   7 Formula         applying reaches a formula with a number
   8 Room            the text has more than 268435456 bytes
   11 Width          the width is 0 or above 64; before all others
+  18 FewLinks       the block has fewer than four links; the program repair_block writes it with four
 
 Exit status
   0  answered
@@ -78,7 +80,7 @@ Exit status
   2  a bad argument, a file that cannot be read or is no regular file, or a line of standard input that is no value
   3  refused; of many values, at least one
 
-With 1 and 2 one line on standard error says why.
+With 1 and 2 one line on standard error says why. With 3, where the refusal is 18, one line there names the program that repairs the block.
 ";
 
 const VERSION: &str = concat!("mdf-convert ", env!("CARGO_PKG_VERSION"), "\n");
@@ -128,8 +130,8 @@ fn in_words(kind: FileType) -> &'static str {
     }
 }
 
-// Answers whether nothing was refused.
-fn carry_out(request: Request<'_>, out: &mut impl Write) -> Result<bool, Stop> {
+// Answers the first refusal, if there is one.
+fn carry_out(request: Request<'_>, out: &mut impl Write) -> Result<Option<Refusal>, Stop> {
     let image = image_of(request.image_file)?;
     let converter = Converter::new(&image, request.address, request.limit, request.mode);
     match request.task {
@@ -139,22 +141,25 @@ fn carry_out(request: Request<'_>, out: &mut impl Write) -> Result<bool, Stop> {
     }
 }
 
-fn run(words: &[OsString]) -> Result<bool, Stop> {
+fn run(words: &[OsString]) -> Result<Option<Refusal>, Stop> {
     let arguments = arguments::read(words).map_err(Stop::Bad)?;
     let mut out = BufWriter::new(output::given().as_ref().map_err(unwritten)?);
     let ended = match arguments {
-        Arguments::Help => out.write_all(HELP.as_bytes()).map(|()| true).map_err(Stop::from),
-        Arguments::Version => out.write_all(VERSION.as_bytes()).map(|()| true).map_err(Stop::from),
+        Arguments::Help => out.write_all(HELP.as_bytes()).map(|()| None).map_err(Stop::from),
+        Arguments::Version => out.write_all(VERSION.as_bytes()).map(|()| None).map_err(Stop::from),
         Arguments::Request(request) => carry_out(request, &mut out),
     };
     out.flush().map_err(Stop::from).and(ended)
 }
 
-// The exit status, and on standard error the one line that says why there is no whole answer.
-fn status_of(ended: Result<bool, Stop>) -> u8 {
+// The exit status, and on standard error the one line that says why there is no whole answer, or what repairs a block that is refused.
+fn status_of(ended: Result<Option<Refusal>, Stop>) -> u8 {
     let (status, line) = match ended {
-        Ok(true) => return ANSWERED,
-        Ok(false) => return REFUSED,
+        Ok(None) => return ANSWERED,
+        Ok(Some(Refusal::FewLinks(address))) => {
+            (REFUSED, format!("the block at {address} has fewer than four links; the program repair_block writes it with four"))
+        }
+        Ok(Some(_)) => return REFUSED,
         Err(Stop::Unwritten(line)) => (UNWRITTEN, line),
         Err(Stop::Bad(line)) => (BAD, line),
     };

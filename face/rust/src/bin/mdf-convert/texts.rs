@@ -19,7 +19,7 @@ pub fn lead(image: &[u8], link: Option<u64>) -> Lead<'_> {
         return Lead::Nowhere;
     };
     match ConversionBlock::parse(image, address) {
-        Ok(_) | Err(Refusal::Short(_)) => Lead::Conversion,
+        Ok(_) | Err(Refusal::Short(_) | Refusal::FewLinks(_)) => Lead::Conversion,
         Err(Refusal::Outside(_)) => Lead::Outside,
         Err(_) => text(image, address).unwrap_or(Lead::Other),
     }

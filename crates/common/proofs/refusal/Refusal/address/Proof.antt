@@ -38,6 +38,9 @@ enum-told-4 c = search needs
 enum-told-5 : tie.Need-enum-told-5
 enum-told-5 c = search needs
 
+enum-known-self-7 : tie.Need-enum-known-self-7
+enum-known-self-7 c = search needs
+
 returns : tie.Need-returns
 returns c = ap addressOf (sym (c .before .self .given .1))
 
@@ -71,6 +74,9 @@ returns-10 c = search needs
 returns-11 : tie.Need-returns-11
 returns-11 c = search needs
 
+returns-12 : tie.Need-returns-12
+returns-12 c = ap addressOf (sym (c .before .self7 .given .1))
+
 pub address-spec : {M : Type 1} → statement M
 address-spec =
     tie.close
@@ -86,6 +92,7 @@ address-spec =
     enum-told-3
     enum-told-4
     enum-told-5
+    enum-known-self-7
     returns
     returns-2
     returns-3
@@ -96,4 +103,5 @@ address-spec =
     returns-8
     returns-9
     returns-10
-    returns-11)
+    returns-11
+    returns-12)

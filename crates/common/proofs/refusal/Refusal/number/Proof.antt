@@ -38,6 +38,9 @@ enum-told-10 c = search needs
 enum-told-11 : tie.Need-enum-told-11
 enum-told-11 c = search needs
 
+enum-told-12 : tie.Need-enum-told-12
+enum-told-12 c = search needs
+
 returns : tie.Need-returns
 returns c = ap numberOf (sym (c .enum-told .given .1))
 
@@ -71,6 +74,9 @@ returns-10 c = ap numberOf (sym (c .enum-told10 .given .1))
 returns-11 : tie.Need-returns-11
 returns-11 c = ap numberOf (sym (c .enum-told11 .given .1))
 
+returns-12 : tie.Need-returns-12
+returns-12 c = ap numberOf (sym (c .enum-told12 .given .1))
+
 pub number-spec : {M : Type 1} → statement M
 number-spec =
     tie.close
@@ -86,6 +92,7 @@ number-spec =
     enum-told-9
     enum-told-10
     enum-told-11
+    enum-told-12
     returns
     returns-2
     returns-3
@@ -96,4 +103,5 @@ number-spec =
     returns-8
     returns-9
     returns-10
-    returns-11)
+    returns-11
+    returns-12)

@@ -1,0 +1,68 @@
+-- What is held of bytes by an output with room for them, and by one without; the writer holds a block's bytes so. Assumes nothing.
+use mathlib.Core.Path.{_≡_, refl, sym, ap, _∙_}
+use mathlib.Core.Bool.{Bool, true, false}
+use mathlib.Core.List.{List, _++_}
+use Prim.Native.Nat.{ℕ, _-_, _≤_, _<_}
+use native.Mathlib.Omega.{arith}
+use borrow.Author.Tests.{lt-ltb, le-ltb, ltb-true, ltb-false}
+use lib.Dec.{ltb}
+use lib.ListN.{length, drop}
+use Rattle.words.proofs.Clash.{clash}
+use Rattle.words.specs.Words.{words}
+use Rattle.words.proofs.Slices.{length-words}
+use Rattle.common.specs.declared.refusal.Refusal.the-variants.{Room}
+use Rattle.blocks.specs.Place.{references, valueWords}
+use Rattle.blocks.specs.declared.Block.{Block}
+use Rattle.blocks.specs.declared.Parsed.the-variants.{Whole}
+use Rattle.writer.specs.Write.{blockBytes, outputHolds, WriteCall, writeCall, writing}
+use Rattle.writer.specs.declared.Written.{Written}
+use Rattle.writer.specs.declared.Written.the-variants.{Bytes, Unwritten}
+use Rattle.writer.proofs.Writing.{length-block, no-room, block-written}
+use Rattle.repair.specs.Repair.{rewritten, holding}
+
+module _ (bytes out : List ℕ) where
+  pub none-held : length out < length bytes → holding bytes out ≡ writeCall (Unwritten Room) out
+  unfolding holding
+  none-held h = rw (lt-ltb _ _ h)
+
+  pub all-held : length bytes ≤ length out → holding bytes out ≡ writeCall (Bytes (length bytes)) (bytes ++ drop (length bytes) out)
+  unfolding holding
+  all-held h = rw (le-ltb _ _ h)
+
+-- what was written fits the output
+pub held-fits : (bytes out : List ℕ) (w : Written) (k : ℕ) (after : List ℕ) → writeCall w after ≡ holding bytes out → w ≡ Bytes k → k ≤ length out
+held-fits bytes out w k after made e = go (ltb (length out) (length bytes)) refl
+  where
+    go : (t : Bool) → ltb (length out) (length bytes) ≡ t → k ≤ length out
+    go true t =
+        let same : w ≡ Unwritten Room = ap (λ (c : WriteCall). c .result) (made ∙ none-held bytes out (ltb-true (length out) (length bytes) t)) in
+        clash cc
+    go false t =
+        let most = ltb-false (length out) (length bytes) t in
+        let same : w ≡ Bytes (length bytes) = ap (λ (c : WriteCall). c .result) (made ∙ all-held bytes out most) in
+        let long : k ≡ length bytes = cc in
+        omega (arith, long, most)
+
+-- a block of at most 65,535 values
+pub writing-holds : (b : Block) (refs values out : List ℕ) → length values ≤ 65535 → writing b refs values out ≡ holding (blockBytes b refs values) out
+unfolding writing
+writing-holds b refs values out few = go (ltb (length out) (length (blockBytes b refs values))) refl
+  where
+    go : (t : Bool) → ltb (length out) (length (blockBytes b refs values)) ≡ t → writing b refs values out ≡ holding (blockBytes b refs values) out
+    go true t =
+        let less = ltb-true (length out) (length (blockBytes b refs values)) t in
+        ap (λ (w : Written). writeCall w (outputHolds w (blockBytes b refs values) out))
+        (no-room (b .ranged) (length refs) (length values) (length out) few (omega (arith, length-block b refs values)))
+        ∙ sym (none-held (blockBytes b refs values) out less)
+    go false t =
+        let most = ltb-false (length out) (length (blockBytes b refs values)) t in
+        block-written b refs values out (length (blockBytes b refs values)) few (sym (length-block b refs values)) most
+        ∙ sym (all-held (blockBytes b refs values) out most)
+
+-- the words that were gathered for a block are its references and its values
+pub rewriting : (input out : List ℕ) (b : Block) (n : ℕ) (refs values : List ℕ) (made : WriteCall) → n ≡ b .links - 4 → refs ≡ words input (b .firstref) n
+    → values ≡ words input (b .firstval) (b .valcount) → b .valcount ≤ 65535 → made ≡ writing b refs values out
+    → made ≡ holding (rewritten input (Whole b)) out
+unfolding references valueWords
+rewriting input out b n refs values made e f g few m =
+    m ∙ rw (f, g, e) (writing-holds b (references input b) (valueWords input b) out (omega (arith, length-words input (b .firstval) (b .valcount))))

@@ -1,0 +1,4 @@
+pub mod Gathering
+pub mod Holding
+pub mod Reading
+pub mod Laws
