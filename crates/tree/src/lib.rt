@@ -126,12 +126,11 @@ fn walk(image: &[u8], at: u64, path: &mut [u64], depth: usize, visits: u32, limi
     ensures { λ r. ⌜ r ≡ answer limit visits (walkOf (21 - depth) (now (image .entry)) (take depth (now (path .entry))) at) ⌝ }
     ensures { λ r. ⌜ take depth (now (path .exit)) ≡ take depth (now (path .entry)) ⌝ }
 {
-    let from = at as usize;
-    let few = Block::has_few_links(image, from);
     if visits == limit {
         return Checked::Unsound(Refusal::Limit(at));
     }
-    if few {
+    let from = at as usize;
+    if Block::has_few_links(image, from) {
         return Checked::Unsound(Refusal::FewLinks(at));
     }
     let Seen::Open(view) = View::look(image, from) else {

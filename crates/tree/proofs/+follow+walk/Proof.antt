@@ -174,7 +174,7 @@ abbrev rest : List ℕ → ℕ → List ℕ → List ℕ → Walk
 rest img depth path rs = walkLinks (walkOf (21 - (depth + 1)) img (take (depth + 1) path)) (classed img (take (depth + 1) path)) rs
 
 abbrev Inv : walk-lts.InvT-loop
-Inv image at path₀ depth visits limit from few refs tally₀ i₀ path tally i =
+Inv image at path₀ depth visits limit from refs tally₀ i₀ path tally i =
     (i ≤ refs)
     × (tally .visits ≤ limit)
     × (length path ≡ 21)
@@ -184,7 +184,7 @@ Inv image at path₀ depth visits limit from few refs tally₀ i₀ path tally i
     ≡ answer limit (tally .visits) (rest image depth path₀ (words image (from + 56 + 8 * i) (refs - i))))
 
 abbrev μ : walk-lts.MeasureT-loop
-μ image at path₀ depth visits limit from few refs tally₀ i₀ path tally i = refs - i
+μ image at path₀ depth visits limit from refs tally₀ i₀ path tally i = refs - i
 
 module _ (t : ℕ) where
   abbrev Start : Type 0
@@ -213,7 +213,7 @@ module _ (t : ℕ) where
   open-is c = sym (c .before .before .look .ensures) ∙ c .view .given .1
 
   has-links : (c : After-view) → fewLinks (begun c .args .image .now) (begun c .args .at) ≡ false
-  has-links c = sym (c .before .before .before .before .before .has-few-links .ensures) ∙ c .before .before .before .if2 .left
+  has-links c = sym (c .before .before .before .before .has-few-links .ensures) ∙ c .before .before .before .if2 .left
 
   enough : (c : After-view) → begun c .args .at + 64 + 8 * c .view .given .0 .0 .refs ≤ length (begun c .args .image .now)
   enough c = seen-room _ _ _ (open-is c)
@@ -286,7 +286,7 @@ module _ (t : ℕ) where
 
   walk-returns : walk-lts.Need-returns (walk-calls t) (walk-at t) walk.Post Inv μ
   walk-returns c =
-      let s = c .before .before .before .before in
+      let s = c .before .before .before in
       (sym (walk-full (s .args .image .now) (above s) (s .args .at) (s .args .limit) (s .args .visits) (21 - s .args .depth) (c .if1 .taken)), refl)
 
   walk-returns-2 : walk-lts.Need-returns-2 (walk-calls t) (walk-at t) walk.Post Inv μ
@@ -294,7 +294,7 @@ module _ (t : ℕ) where
       let s = c .before .before .before .before .before in (
         sym
             (walk-few (s .args .image .now) (above s) (s .args .at) (s .args .limit) (s .args .visits) (21 - s .args .depth) (omega arith)
-            (sym (c .before .before .has-few-links .ensures) ∙ c .if2 .taken)),
+            (sym (c .before .has-few-links .ensures) ∙ c .if2 .taken)),
         refl,
       )
 
@@ -312,7 +312,7 @@ module _ (t : ℕ) where
       let s = c .before .before .before .before .before .before .before .before in (
         sym
             (walk-short (s .args .image .now) (above s) (s .args .at) (s .args .limit) (s .args .visits) (21 - s .args .depth) (omega arith)
-            (sym (c .before .before .before .before .before .has-few-links .ensures) ∙ c .before .before .before .if2 .left)
+            (sym (c .before .before .before .before .has-few-links .ensures) ∙ c .before .before .before .if2 .left)
             (sym (c .before .before .look .ensures) ∙ c .enum-told .given .1)),
         refl,
       )
@@ -471,8 +471,8 @@ pub +follow+walk-spec : {M : Type 1} → statement M
     walk.Post
     Inv
     μ
-    (walk-has-few-links-requires t)
     (walk-returns t)
+    (walk-has-few-links-requires t)
     (walk-returns-2 t)
     (walk-look-requires t)
     (walk-enum-known-view t)
