@@ -10,7 +10,7 @@ use lib.ListN.{length}
 use Rattle.words.specs.Words.{word64}
 use Rattle.words.proofs.Clash.{clash}
 use Rattle.common.specs.Header.{inside, isConversion}
-use Rattle.common.proofs.Headers.{inside-fits}
+use Rattle.common.proofs.Headers.{inside-fits, of-conversion}
 use Rattle.blocks.specs.Block.{blockEnd, blockAt, opened, parsedForRepair, fewLinks, retired, parsed}
 use Rattle.blocks.specs.declared.Block.{Block}
 use Rattle.blocks.specs.declared.Parsed.the-variants.{Whole, Refused}
@@ -18,30 +18,6 @@ use Rattle.common.specs.declared.refusal.Refusal.{Refusal}
 use Rattle.common.specs.declared.refusal.Refusal.the-variants.{Outside, NotConversion, Short, FewLinks}
 
 module _ (img : List ℕ) (a : ℕ) where
-  pub read-outside : inside img a ≡ false → parsedForRepair img a ≡ Refused (Outside a)
-  unfolding parsedForRepair
-  read-outside h = rw h
-
-  pub read-other : inside img a ≡ true → isConversion img a ≡ false → parsedForRepair img a ≡ Refused (NotConversion a)
-  unfolding parsedForRepair
-  read-other h k = rw (h, k)
-
-  pub read-conversion : inside img a ≡ true → isConversion img a ≡ true → parsedForRepair img a ≡ opened img a
-  unfolding parsedForRepair
-  read-conversion h k = rw (h, k)
-
-  pub retired-outside : inside img a ≡ false → retired img a ≡ false
-  unfolding retired
-  retired-outside h = rw h
-
-  pub retired-other : inside img a ≡ true → isConversion img a ≡ false → retired img a ≡ false
-  unfolding retired
-  retired-other h k = rw (h, k)
-
-  pub retired-conversion : inside img a ≡ true → isConversion img a ≡ true → retired img a ≡ fewLinks img a
-  unfolding retired
-  retired-conversion h k = rw (h, k)
-
   pub parsed-retired : retired img a ≡ true → parsed img a ≡ Refused (FewLinks a)
   unfolding parsed
   parsed-retired h = rw h
@@ -86,8 +62,8 @@ read-whole img a b e =
 -- a block that is read is parsed exactly where it has the four fixed links
 module _ (img : List ℕ) (a : ℕ) (b : Block) (whole : parsedForRepair img a ≡ Whole b) where
   retired-is : retired img a ≡ fewLinks img a
-  unfolding inside
-  retired-is = let w = read-whole img a b whole in retired-conversion img a (le-leb (a + 24) (length img) (w .header)) (w .conversion)
+  unfolding retired inside
+  retired-is = let w = read-whole img a b whole in of-conversion img a _ _ _ (le-leb (a + 24) (length img) (w .header)) (w .conversion)
 
   links-are : b .links ≡ word64 img (a + 16)
   unfolding blockAt

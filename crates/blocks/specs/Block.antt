@@ -1,7 +1,7 @@
 -- The bytes of a ##CC block (document 01, "Bytes of a block"), in the document's order, and the link counts that parsing refuses (request [11]).
 -- Assumes nothing: these are definitions.
 use Prim.Native.Nat.{ℕ, _+_, _-_, _*_}
-use mathlib.Core.Bool.{Bool, true, false, _&&_, cond}
+use mathlib.Core.Bool.{Bool, true, false, cond}
 use mathlib.Core.List.{List}
 use lib.Dec.{leb, ltb}
 use lib.ListN as ListN
@@ -125,7 +125,7 @@ fewLinks img a = ltb (word64 img (a + 16)) 4
 
 -- a ##CC block with such a count, which no tool writes now
 unfoldable pub retired : List ℕ → ℕ → Bool
-retired img a = inside img a && (isConversion img a && fewLinks img a)
+retired img a = cond (inside img a) (cond (isConversion img a) (fewLinks img a) false) false
 
 -- parsing one block gives 1, 2, 18 or 4: document 01's parsing, with the test for 18 before it
 unfoldable pub parsed : List ℕ → ℕ → Parsed

@@ -66,8 +66,7 @@ seven-eight room a says.unknown r h p = clash cc
 seven-eight room a says.formula r h p = let same : r ≡ Formula = cc in inl (ap numberOf same)
 seven-eight room a says.broken r h p = absurd (h refl)
 
--- after an accepted check the only refusals are 7, a formula, and 8, the output is too small: none for depth, a loop, few links, a short block or
--- the limit
+-- after an accepted check the only refusals are 7, a formula, and 8, the output is too small: none for depth, a loop, few links, a short block or the limit
 pub refused-only : (mode : Mode) (img : List ℕ) (a l n : ℕ) (v : Value) (t out : List ℕ) (r : Refusal) → checked img a l ≡ Accepted n
     → applying mode img a l v t out .result .answer ≡ Refused r → (numberOf r ≡ 7) ⊎ (numberOf r ≡ 8)
 unfolding settled

@@ -43,8 +43,7 @@ module _ (mode : Mode) (img : List ℕ) (a limit : ℕ) (v : Value) (t out : Lis
     pub limited : made .result .checked ≤ limit
     -- M <= 21 where none of the blocks begun has type 11
     pub few : NoGroups img (applied 21 mode img t a v .begun) → made .result .applied ≤ 21
-    -- the only refusals are 7, a formula, and 8, the output is too small: none for depth, a loop, few links, a short
-    -- block or the limit
+    -- the only refusals are 7, a formula, and 8, the output is too small: none for depth, a loop, few links, a short block or the limit
     pub refusals : (r : Refusal) → made .result .answer ≡ Refused r → (numberOf r ≡ 7) ⊎ (numberOf r ≡ 8)
     -- a raised limit changes neither answer, N, M, the flag of a malformed table nor output
     pub raised : (higher : ℕ) → limit ≤ higher → applying mode img a higher v t out ≡ made

@@ -77,8 +77,7 @@ module _ (mode : Mode) (older : mode .edition ≡ Mdf410) (img t : List ℕ) whe
 
 -- ---- one call
 module _ (img : List ℕ) (a limit : ℕ) (v : Value) (t out : List ℕ) where
-  -- a call is as the check without a mode says: where that accepts with n, N is n and it refuses with 7 or 8 at most; where it refuses, the call is that
-  -- refusal
+  -- a call is as the check without a mode says: where that accepts with n, N is n and a refusal is 7 or 8; where it refuses, the call is that refusal
   abbrev pub AsChecked : Checked → Call → Type 0
   AsChecked (Accepted n) c = (c .result .checked ≡ n) × ((r : Refusal) → c .result .answer ≡ Refused r → (7 ≤ numberOf r) × (numberOf r ≤ 8))
   AsChecked (Unsound r) c = c ≡ call (refusedBefore r) out

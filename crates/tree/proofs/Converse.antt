@@ -14,12 +14,13 @@ use Rattle.words.proofs.Clash.{clash}
 use Rattle.common.specs.Header.{inside, isConversion}
 use Rattle.common.specs.declared.refusal.Refusal.{Refusal}
 use Rattle.common.specs.declared.refusal.Refusal.the-variants.{Limit}
-use Rattle.blocks.specs.Block.{blockAt, opened, fewLinks, parsed}
+use Rattle.common.proofs.Headers.{of-conversion}
+use Rattle.blocks.specs.Block.{blockAt, opened, parsedForRepair, fewLinks, parsed}
 use Rattle.blocks.specs.Place.{references}
 use Rattle.blocks.specs.declared.Block.{Block}
 use Rattle.blocks.specs.declared.Parsed.{Parsed}
 use Rattle.blocks.specs.declared.Parsed.the-variants.{Whole}
-use Rattle.blocks.proofs.Opening.{read-conversion, read-parses}
+use Rattle.blocks.proofs.Opening.{read-parses}
 use Rattle.tree.specs.Walk.{Walk, End, complete, fault, onward, andThen, followed, walkLinks, unlessShort, entered, on, classed, walk, trace, ended, checked}
 use Rattle.tree.specs.Tree.{leadsIn, sizes, size, Each, Sound}
 use Rattle.tree.specs.Follow.{Standing}
@@ -265,9 +266,9 @@ refused-iff img a l = (
 
 -- ---- 18 and 4 cannot follow an accepted check: parsing the root or any block below it gives its record
 sound-parses : (d : ℕ) (img : List ℕ) (a : ℕ) → inside img a ≡ true → isConversion img a ≡ true → Sound d img a → parsed img a ≡ Whole (blockAt img a)
-unfolding Sound
+unfolding Sound parsedForRepair
 sound-parses zero img a h k s = absurd s
-sound-parses (suc d) img a h k s = read-parses img a (blockAt img a) (read-conversion img a h k ∙ s .1) (s .0)
+sound-parses (suc d) img a h k s = read-parses img a (blockAt img a) (of-conversion img a _ _ _ h k ∙ s .1) (s .0)
 
 leads-there : (img : List ℕ) (r : ℕ) → leadsIn img r ≡ true → (inside img r ≡ true) × (isConversion img r ≡ true)
 unfolding leadsIn

@@ -85,7 +85,7 @@ abbrev pub unlessShort : ℕ → Parsed → (Block → Walk) → Walk
 unlessShort a (Whole b) g = g b
 unlessShort a (Refused r) g = stopped (short a)
 
--- the block at a is read, and then what is done with it: 18 if it has under four links, then 4 if it is short
+-- the block at a is entered: 18 if it has under four links, then 4 if it is short, else what is done with it
 unfoldable pub entered : List ℕ → ℕ → (Block → Walk) → Walk
 entered img a g = unlessFew a (fewLinks img a) (unlessShort a (opened img a) g)
 

@@ -1,8 +1,8 @@
 -- `blocks::Block::is_retired` meets its contract. Assumes nothing.
 use mathlib.Core.Path.{sym, _∙_}
 use denote.Ref.{now}
-use Rattle.common.proofs.Headers.{inside-fits}
-use Rattle.blocks.proofs.Opening.{retired-outside, retired-other, retired-conversion}
+use Rattle.common.proofs.Headers.{inside-fits, of-outside, of-other, of-conversion}
+use Rattle.blocks.specs.Block.{retired}
 use borrow.Author.Needs.{needs}
 use Rattle.blocks.proofs.Block.is_retired.Statement.{statement}
 use Rattle.blocks.proofs.Block.is_retired.Tie as tie
@@ -21,19 +21,22 @@ has-few-links-requires c κs =
     inside-fits (now (a .image)) (a .address) cc
 
 returns : tie.Need-returns
+unfolding retired
 returns c =
     let a = c .before .before .before .before .before .before .args in
-    c .has-few-links .ensures ∙ sym (retired-conversion (now (a .image)) (a .address) (cc) (cc))
+    c .has-few-links .ensures ∙ sym (of-conversion (now (a .image)) (a .address) _ _ _ (cc) (cc))
 
 returns-2 : tie.Need-returns-2
+unfolding retired
 returns-2 c =
     let a = c .before .before .before .before .before .args in
-    sym (retired-other (now (a .image)) (a .address) (cc) (cc))
+    sym (of-other (now (a .image)) (a .address) _ _ _ (cc) (cc))
 
 returns-3 : tie.Need-returns-3
+unfolding retired
 returns-3 c =
     let a = c .before .before .before .args in
-    sym (retired-outside (now (a .image)) (a .address) cc)
+    sym (of-outside (now (a .image)) (a .address) _ _ _ cc)
 
 pub is-retired-spec : {M : Type 1} → statement M
 is-retired-spec =

@@ -1,8 +1,8 @@
 -- `blocks::Block::parse_for_repair` meets its contract. Assumes nothing.
 use mathlib.Core.Path.{sym, _∙_}
 use denote.Ref.{now}
-use Rattle.common.proofs.Headers.{inside-fits}
-use Rattle.blocks.proofs.Opening.{read-outside, read-other, read-conversion}
+use Rattle.common.proofs.Headers.{inside-fits, of-outside, of-other, of-conversion}
+use Rattle.blocks.specs.Block.{parsedForRepair}
 use borrow.Author.Needs.{needs}
 use Rattle.blocks.proofs.Block.parse_for_repair.Statement.{statement}
 use Rattle.blocks.proofs.Block.parse_for_repair.Tie as tie
@@ -21,19 +21,22 @@ read-requires c κs =
     inside-fits (now (a .image)) (a .address) cc
 
 returns : tie.Need-returns
+unfolding parsedForRepair
 returns c =
     let a = c .before .before .before .before .before .before .args in
-    c .read .ensures ∙ sym (read-conversion (now (a .image)) (a .address) (cc) (cc))
+    c .read .ensures ∙ sym (of-conversion (now (a .image)) (a .address) _ _ _ (cc) (cc))
 
 returns-2 : tie.Need-returns-2
+unfolding parsedForRepair
 returns-2 c =
     let a = c .before .before .before .before .before .args in
-    sym (read-other (now (a .image)) (a .address) (cc) (cc))
+    sym (of-other (now (a .image)) (a .address) _ _ _ (cc) (cc))
 
 returns-3 : tie.Need-returns-3
+unfolding parsedForRepair
 returns-3 c =
     let a = c .before .before .before .args in
-    sym (read-outside (now (a .image)) (a .address) cc)
+    sym (of-outside (now (a .image)) (a .address) _ _ _ cc)
 
 pub parse-for-repair-spec : {M : Type 1} → statement M
 parse-for-repair-spec =
