@@ -83,7 +83,7 @@ module _ (input : List ℕ) (b : Block) (most : length input ≤ 30000) (whole :
   unfolding valueWords
   values-count = length-words input (b .firstval) (b .valcount)
 
-  -- what is written is as long as what was read
+  -- where its parts stand, and how long it is
   ranged-is : rangeSize (b .ranged) ≡ rangeSize (isRanged input 0)
   unfolding blockAt
   ranged-is = rw same (go (isRanged input 0))
@@ -182,8 +182,7 @@ module _ (input : List ℕ) (b : Block) (most : length input ≤ 30000) (whole :
 
 -- ---- 30,000 bytes of room suffice: a block is no longer than the input that it was read from, and a line has 10 bytes
 room-for : (input : List ℕ) → length input ≤ 30000 → (p : Parsed) → parsedForRepair input 0 ≡ p → length (repaired input) ≤ 30000
-room-for input most (Whole b) e =
-    omega (arith, as-long input b most e, read-whole input 0 b e .fits)
+room-for input most (Whole b) e = omega (arith, as-long input b most e, read-whole input 0 b e .fits)
 room-for input most (Refused r) e = omega (arith, ap length (fitting input most (Refused r) e))
 
 pub room-suffices : (input : List ℕ) → length (repaired input) ≤ 30000

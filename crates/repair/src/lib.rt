@@ -16,9 +16,10 @@ ghost use Rattle.blocks.specs.declared.Parsed.the-variants.{Whole};
 ghost use Rattle.writer.specs.Write.{writeCall};
 ghost use Rattle.repair.specs.Repair.{refusedLine, rewritten, repaired, holding};
 
-// The most bytes of an input, and the words that lie in so many.
+// The most bytes of an input.
 const MOST: usize = 30000;
 
+// The words that lie in so many.
 const WORDS: usize = 3750;
 
 // As many words of the input as `count` says, from `first` on.
