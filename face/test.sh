@@ -1,7 +1,7 @@
 #!/bin/sh
-# Tries the C and the Rust face on the archive of the proved code: the header and the C example as C11 and C++17, the C test plain and under
+# Tries the C and the Rust face on the archive of the proved code: the header and the C examples as C11 and C++17, the C test plain and under
 # valgrind, images that only a bounded call gets through, the stack that a call takes, whole numbers as f64 against exact arithmetic, that the machine
-# converts none of them, the tests of the Rust crate, and the examples, whose text and whose answers are those that README.md and the header show.
+# converts none of them, that the archive needs no library, the tests of the Rust crate, and the examples, whose text and whose answers are those that README.md and the header show.
 # Where a tool is missing it says in one line what was not run, and goes on.
 set -eu
 cd "$(dirname "$0")/.."
@@ -29,14 +29,20 @@ is_in_readme() { # TRANSCRIPT
     has_lines README.md "$1" || { echo 'face: README.md does not show this:'; echo "$1"; exit 1; }
 }
 
-# Each block of README.md in a language is a part of the example in that language.
-blocks_are_from() { # LANGUAGE EXAMPLE
-    awk -v language="$1" '
-        NR == FNR { example = example "\n" $0; next }
-        $0 == "```" language { inside = 1; block = deeper = "\n"; count++; next }
-        $0 == "```" { if (inside && !index(example "\n", block) && !index(example "\n", deeper)) bad = 1; inside = 0 }
+# Each block of README.md in a language is a part of one of the examples in that language, and each of these is shown.
+blocks_are_from() { # LANGUAGE EXAMPLE...
+    language=$1
+    shift
+    awk -v language="$language" '
+        function is_part(    name, found) {
+            for (name in example) if (index(example[name], block) || index(example[name], deeper)) found = shown[name] = 1
+            return found
+        }
+        FILENAME != "README.md" { example[FILENAME] = (FNR == 1 ? "\n" : example[FILENAME]) $0 "\n"; next }
+        $0 == "```" language { inside = 1; block = deeper = "\n"; next }
+        $0 == "```" { if (inside && !is_part()) bad = 1; inside = 0 }
         inside { block = block $0 "\n"; deeper = deeper ($0 == "" ? "" : "    ") $0 "\n" }
-        END { exit bad || !count }' "$2" README.md || fail "what README.md shows in $1 is not from $2"
+        END { for (name in example) if (!shown[name]) bad = 1; exit bad }' "$@" README.md || fail "what README.md shows in $language is not from $*"
 }
 
 # Compiles LANGUAGE source from standard input.
@@ -47,12 +53,13 @@ compile() { # COMPILER LANGUAGE STANDARD [WORDS...]
     "$compiler" -x "$language" "-std=$standard" $warnings -Iface/c - -x none "$@"
 }
 
-# The header, included twice, and the example, which is run on the sample image.
+# The header, included twice, and the examples, which are run, one of them on the sample image.
 header() { # COMPILER LANGUAGE STANDARD
     printf '#include "mdf_conversion.h"\n#include "mdf_conversion.h"\n' | compile "$1" "$2" "$3" -fsyntax-only
-    compile "$1" "$2" "$3" "$archive" -o target/convert <examples/convert.c
+    for example in convert rewrite; do compile "$1" "$2" "$3" "$archive" -o "target/$example" <"examples/$example.c"; done
     is_in_readme "$(transcript 'target/convert samples/tractor.mdf')"
-    echo "face: the header and the example are clean $3"
+    is_in_readme "$(transcript 'target/rewrite')"
+    echo "face: the header and the examples are clean $3"
 }
 
 # The lines of the example, from its first #include on, stand in the header's first comment.
@@ -87,6 +94,14 @@ no_conversion() {
     echo 'face: no instruction of the archive converts a number'
 }
 
+# The header says that the archive needs no library: no code of it calls a function from outside. A loop that only clears or copies would become such a call.
+no_library() {
+    if ! has nm; then missing nm 'the look for functions from outside'; return; fi
+    nm -u "$archive" >"$made/from_outside"
+    if grep -w U "$made/from_outside"; then fail 'the archive needs a function from outside'; fi
+    echo 'face: the archive needs no function from outside'
+}
+
 c_face() {
     header gcc c c11
     build test
@@ -107,7 +122,9 @@ c_face() {
 rust_face() {
     (cd face/rust && cargo test --offline) >"$made/cargo.log" 2>&1 || { cat "$made/cargo.log"; exit 1; }
     awk '/^test result: ok/ { passed += $4 } END { print "Rust face: " passed " tests passed, 0 failed" }' "$made/cargo.log"
-    is_in_readme "$(transcript 'cargo run --quiet --offline --manifest-path face/rust/Cargo.toml --example convert')"
+    for example in convert rewrite; do
+        is_in_readme "$(transcript "cargo run --quiet --offline --manifest-path face/rust/Cargo.toml --example $example")"
+    done
     is_in_readme "$(shell_example)"
     echo 'Rust face: the examples in Rust and of the command print what README.md shows'
 }
@@ -121,9 +138,10 @@ shell_example() {
 [ -f "$archive" ] || { echo "face: no archive at $archive; rt staticlib gateway makes it"; exit 1; }
 mkdir -p "$made"
 header_has_example
-blocks_are_from c examples/convert.c
-blocks_are_from rust examples/convert.rs
+blocks_are_from c examples/convert.c examples/rewrite.c
+blocks_are_from rust examples/convert.rs examples/rewrite.rs
 no_conversion
+no_library
 if has gcc; then c_face; else missing gcc 'the header as C11 and the C test'; fi
 if has g++; then header g++ c++ c++17; else missing g++ 'the header as C++17'; fi
 if has cargo && has cc; then rust_face; else missing 'cargo or cc' 'the tests of the Rust crate'; fi

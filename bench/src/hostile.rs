@@ -1,6 +1,6 @@
 // Images of few bytes that made a call run on. At size s an image has s times the references and s times the text of size 1: a call that reads
 // each text to its end grows with s * s, a bounded one with s. The visits of `groups in groups` and `deep groups` stay as they are, so that what
-// grows is the block; those of `names` and `choices` grow, and their nested blocks stay as they are.
+// grows is the block; those of `names` and `choices` grow, and their nested blocks stay as they are. The writer has no image: its room grows.
 use crate::cases::linked;
 use crate::image::Image;
 use crate::ours;
@@ -18,6 +18,9 @@ enum Call {
     Translate(&'static str),
     Reference(u64),
     ValueWord(u64),
+    ParseKept,
+    /// Of a block with a range, no references and no values, with so much excess.
+    Write(u64),
 }
 
 /// One call, with all that is lent to it.
@@ -25,6 +28,7 @@ pub struct Asked {
     bytes: Vec<u8>,
     address: u64,
     limit: u32,
+    room: usize,
     call: Call,
 }
 
@@ -58,6 +62,10 @@ pub const ALL: &[Hostile] = &[
     Hostile { name: "linked-again", says: "the check of 10 blocks that each link 4 and 8 times to the next, limit 4,294,967,295", build: again },
     Hostile { name: "last-reference", says: "the last reference of a block, by mdf_reference", build: last_reference },
     Hostile { name: "last-value", says: "the last value of a block, by mdf_value_word", build: last_value },
+    Hostile { name: "kept-past-end", says: "a block length of 2^64 - 1, by mdf_parse_kept: refused with 4", build: kept_past_end },
+    Hostile { name: "kept-to-end", says: "a block length up to the image end, by mdf_parse_kept", build: kept_to_end },
+    Hostile { name: "huge-excess", says: "excess of 2^64 - 1 and little room, by mdf_write: refused with 8", build: huge_excess },
+    Hostile { name: "written-excess", says: "as much excess as there is room for, by mdf_write", build: written_excess },
 ];
 
 /// The image of this name at a size.
@@ -67,26 +75,38 @@ pub fn named(name: &str, size: usize) -> Asked {
 }
 
 impl Asked {
+    /// Of the image, or of the output for the writer, which has no image.
     pub fn bytes(&self) -> usize {
-        self.bytes.len()
+        if let Call::Write(_) = self.call {
+            self.room
+        } else {
+            self.bytes.len()
+        }
     }
 
     /// So many calls.
     pub fn calls(&self, n: usize) {
-        let mut out = [0u8; ROOM];
-        let (p, l, at, limit, o) = (self.bytes.as_ptr(), self.bytes.len(), self.address, self.limit, out.as_mut_ptr());
+        let mut out = vec![0u8; self.room];
+        let (p, l, at, limit, o, m) = (self.bytes.as_ptr(), self.bytes.len(), self.address, self.limit, out.as_mut_ptr(), self.room);
         for _ in 0..n {
             match self.call {
                 Call::Check => look(unsafe { ours::mdf_check(p, l, at, limit) }),
-                Call::Number(v) => look(unsafe { ours::mdf_apply_unsigned(p, l, at, limit, v, o, ROOM) }),
-                Call::InMode(v, mode) => look(unsafe { ours::mdf_apply_mode_signed(p, l, at, limit, mode, v, o, ROOM) }),
-                Call::Text(t) => look(unsafe { ours::mdf_apply_text(p, l, at, limit, t.as_ptr(), t.len(), o, ROOM) }),
+                Call::Number(v) => look(unsafe { ours::mdf_apply_unsigned(p, l, at, limit, v, o, m) }),
+                Call::InMode(v, mode) => look(unsafe { ours::mdf_apply_mode_signed(p, l, at, limit, mode, v, o, m) }),
+                Call::Text(t) => look(unsafe { ours::mdf_apply_text(p, l, at, limit, t.as_ptr(), t.len(), o, m) }),
                 Call::Translate(t) => look(unsafe { ours::mdf_translate(p, l, at, limit, t.as_ptr(), t.len()) }),
                 Call::Reference(i) => look(unsafe { ours::mdf_reference(p, l, at, i) }),
                 Call::ValueWord(i) => look(unsafe { ours::mdf_value_word(p, l, at, i) }),
+                Call::ParseKept => look(unsafe { ours::mdf_parse_kept(p, l, at) }),
+                Call::Write(excess) => look(unsafe { ours::mdf_write(ranged(excess), [].as_ptr(), 0, [].as_ptr(), 0, o, m) }),
             }
         }
     }
+}
+
+/// The record of a block with a range and so much excess.
+fn ranged(excess: u64) -> ours::Block {
+    ours::Block { ranged: true, excess, ..ours::Block::default() }
 }
 
 /// An answer, looked at where it is.
@@ -95,7 +115,7 @@ fn look<T>(answer: T) {
 }
 
 fn asked(image: Image, address: u64, call: Call) -> Asked {
-    Asked { bytes: image.bytes, address, limit: LIMIT, call }
+    Asked { bytes: image.bytes, address, limit: LIMIT, room: ROOM, call }
 }
 
 /// A text of so many bytes, all alike.
@@ -221,7 +241,7 @@ fn text_of_8(s: usize) -> Asked {
 fn again(s: usize) -> Asked {
     let mut image = Image::new();
     let address = linked(&mut image, 10, 4 * s);
-    Asked { bytes: image.bytes, address, limit: u32::MAX, call: Call::Check }
+    Asked { bytes: image.bytes, address, limit: u32::MAX, room: ROOM, call: Call::Check }
 }
 
 /// A block with so many references and values, and the last of them: its place is computed, so the size plays no part.
@@ -240,4 +260,36 @@ fn last_reference(s: usize) -> Asked {
 fn last_value(s: usize) -> Asked {
     let (image, at, last) = placed(s);
     asked(image, at, Call::ValueWord(last))
+}
+
+/// The same block with another block length, and so many zeros behind it.
+fn kept(s: usize, length: u64, behind: usize) -> Asked {
+    let (mut image, at, _) = placed(s);
+    image.bytes.resize(image.bytes.len() + behind, 0);
+    image.bytes[at as usize + 8..][..8].copy_from_slice(&length.to_le_bytes());
+    asked(image, at, Call::ParseKept)
+}
+
+/// The 16 bytes behind it belong to the range that this length means.
+fn kept_past_end(s: usize) -> Asked {
+    kept(s, u64::MAX, 16)
+}
+
+fn kept_to_end(s: usize) -> Asked {
+    let (image, at, _) = placed(s);
+    let behind = 1_000_000 * s;
+    kept(s, image.end() - at + behind as u64, behind)
+}
+
+fn writes(excess: u64, room: usize) -> Asked {
+    Asked { bytes: Vec::new(), address: 0, limit: LIMIT, room, call: Call::Write(excess) }
+}
+
+fn huge_excess(s: usize) -> Asked {
+    writes(u64::MAX, ROOM * s)
+}
+
+/// A block with a range and nothing else has 80 bytes.
+fn written_excess(s: usize) -> Asked {
+    writes(1_000_000 * s as u64, 80 + 1_000_000 * s)
 }

@@ -1,6 +1,6 @@
 // The speed of one call of ours, check and application together, beside the crate's apply on a block that was resolved once, and beside its
-// parse, resolve and apply; the check beside the crate's resolve; and how the work of a call grows on hostile images. One process, the same
-// image, the same values, release builds.
+// parse, resolve and apply; the check beside the crate's resolve; parsing and writing one block; and how the work of a call grows on hostile
+// images. One process, the same image, the same values, release builds.
 //
 //     bench                      all of the following, one after the other
 //     bench table VALUES ROUNDS  times and goals: 1,000,000 values each and the median of 5 rounds where nothing else is said
@@ -8,10 +8,12 @@
 //     bench hostile              the hostile images at sizes 1 and 2: instructions where valgrind is at hand, else time
 //     bench only SIDE CASE N     one side alone, N calls: for a profiler. SIDE is ours, resolved or whole, CASE the line of the table from 0 on
 //     bench only check IMAGE N   N checks of the image `tree` or `twice`; with `resolve` the crate's
+//     bench only block WHAT N    N calls on a block of 500 values. WHAT is parse, parse-kept, write, write-padded; the crate's from-bytes, to-bytes
 //     bench only hostile NAME SIZE N
 //
 // In a round the three sides run one after the other, so that what slows the machine slows all. Output buffers are not cleared. Each answer is
 // looked at where it is, with no copy, and the loops have no division, on all sides alike.
+mod blocks;
 mod cases;
 mod count;
 mod hostile;
@@ -270,6 +272,8 @@ fn number(word: Option<&String>, usual: usize) -> usize {
 fn instructions() {
     if count::possible() {
         Bench::new().instructions();
+        println!();
+        blocks::instructions();
     } else {
         println!("no valgrind here, so not counted: instructions a call");
     }
@@ -280,6 +284,7 @@ fn main() -> ExitCode {
     let word = |i: usize| words.get(i).map_or("", String::as_str);
     let mut good = true;
     match (word(0), word(1)) {
+        ("only", "block") => blocks::Blocks::new().calls(word(2), number(words.get(3), 1000)),
         ("only", "hostile") => hostile::named(word(2), number(words.get(3), 1)).calls(number(words.get(4), 1)),
         ("only", side) => Bench::new().only(side, word(2), number(words.get(3), 1000)),
         ("table", _) => Bench::new().table(number(words.get(1), 1_000_000), number(words.get(2), 5)),

@@ -45,7 +45,47 @@ pub struct Word {
     pub word: u64,
 }
 
+/// The fields of a block. `excess` and `reserved` are its padding.
+#[repr(C)]
+#[derive(Clone, Copy, Default)]
+pub struct Block {
+    pub length: u64,
+    pub links: u64,
+    pub name: u64,
+    pub unit: u64,
+    pub comment: u64,
+    pub inverse: u64,
+    pub range_min: f64,
+    pub range_max: f64,
+    pub min_word: u64,
+    pub max_word: u64,
+    pub excess: u64,
+    pub reserved: u32,
+    pub flags: u16,
+    pub ref_count: u16,
+    pub val_count: u16,
+    pub kind: u8,
+    pub precision: u8,
+    pub ranged: bool,
+}
+
+#[repr(C)]
+pub struct Parsed {
+    pub refusal: u32,
+    pub address: u64,
+    pub block: Block,
+}
+
+#[repr(C)]
+pub struct Written {
+    pub refusal: u32,
+    pub length: u64,
+}
+
 extern "C" {
+    pub fn mdf_parse(image: *const u8, image_len: usize, address: u64) -> Parsed;
+    pub fn mdf_parse_kept(image: *const u8, image_len: usize, address: u64) -> Parsed;
+    pub fn mdf_write(block: Block, refs: *const u64, refs_len: usize, words: *const u64, words_len: usize, out: *mut u8, out_len: usize) -> Written;
     pub fn mdf_reference(image: *const u8, image_len: usize, address: u64, index: u64) -> Word;
     pub fn mdf_value_word(image: *const u8, image_len: usize, address: u64, index: u64) -> Word;
     pub fn mdf_check(image: *const u8, image_len: usize, address: u64, limit: u32) -> Checked;

@@ -1,4 +1,6 @@
-// Damages an image: cut off, looping, deep, with huge counts, with few links, with broken ids, texts and links; and addresses that hold no block.
+// Damages an image: cut off, looping, deep, with huge counts, with few links, with broken ids, texts and links, with padding; and addresses that hold
+// no block.
+use crate::numbers;
 use crate::plan::Laid;
 use crate::random::Random;
 use crate::scene::WIDE_LIMIT;
@@ -71,6 +73,53 @@ pub fn few_links(laid: &mut Laid, root: u64, r: &mut Random) {
         _ => root,
     };
     put(&mut laid.image, (block as usize).saturating_add(16), &(r.below(6) as u64).to_le_bytes());
+}
+
+/// Gives the root, or at times another block, reserved bytes or another block length.
+pub fn padding(laid: &mut Laid, root: u64, r: &mut Random) {
+    let block = if r.chance(85) { root } else { r.pick(&laid.places) };
+    let at = usize::try_from(block).ok().filter(|&at| at < laid.image.len());
+    let Some(at) = at else { return };
+    if r.chance(40) {
+        put(&mut laid.image, at + 4, &numbers::reserved(r).to_le_bytes());
+    }
+    if r.chance(80) {
+        let behind = if r.chance(30) { r.below(50) } else { 0 };
+        laid.image.resize(laid.image.len() + behind, 0);
+        let length = padded_length(&laid.image, block, r);
+        put(&mut laid.image, at + 8, &length.to_le_bytes());
+        if r.chance(30) {
+            clear_excess(&mut laid.image, block);
+        }
+    }
+}
+
+/// A block length: close to what is read, or one by which the block ends with the image, close to its end, or where its end fits no 64 bits.
+fn padded_length(image: &[u8], block: u64, r: &mut Random) -> u64 {
+    let read = RIGHT.opened(image, block).map_or(64, |found| found.bytes_read());
+    let to_end = image.len() as u64 - block;
+    match r.below(20) {
+        0..=4 => to_end,
+        5 => to_end + 1,
+        6 => to_end - 1,
+        7 => to_end + r.below(40) as u64,
+        8..=13 => read + r.pick(&[0, 1, 7, 8, 15, 16, 17, 24, 31, 32, 40]),
+        14..=16 => read.saturating_sub(r.pick(&[1, 8, 15, 16, 17, 24, 40])),
+        17 => r.pick(&[u64::MAX, u64::MAX - 1, 1 << 63, 1 << 32]),
+        // Its end is 2^64, or some bytes past it.
+        18 => 0u64.wrapping_sub(block),
+        _ => 0u64.wrapping_sub(block).wrapping_add(r.below(image.len()) as u64),
+    }
+}
+
+/// Makes the excess of a block zeros, as far as the image holds it.
+fn clear_excess(image: &mut [u8], block: u64) {
+    let Some(found) = RIGHT.opened(image, block) else { return };
+    let from = (block + found.bytes_read()) as usize;
+    let to = (image.len() as u128).min(block as u128 + found.length as u128) as usize;
+    if from < to {
+        image[from..to].fill(0);
+    }
 }
 
 /// Ends the image: anywhere, or close to where a block ends or starts.

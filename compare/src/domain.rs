@@ -1,6 +1,7 @@
 // Whether a case lies in document 01's "Domain of equality with the crate", point by point. That a text fits the lent output is seen where
 // the answers are compared; here stands what the image, the address, the limit and the value say.
 //
+// How far a block length exceeds what was read plays no part: the crate reads no excess, and plain parsing keeps none.
 // A tree with a link count below 4 lies outside: the crate reads such a block, and the check refuses it with 18 (request [11]).
 // The crate panics on a whole tree in one case only: a reference whose address + 24 does not fit 64 bits. Any other panic is a difference.
 // A text link is a reference that leads to a ##TX, in types 9 and 10 every reference but one to a ##CC; a name link is that of a block

@@ -1,5 +1,5 @@
 // Grows plans of images: every type but the formula, nested to 21 levels, with shared leaves, names under bit groups, ranges present and absent,
-// odd and unsorted tables. Most plans lie in the domain; the rare ones that do not are meant.
+// odd and unsorted tables, zeros behind the values. Most plans lie in the domain; the rare ones that do not are meant.
 use crate::numbers;
 use crate::plan::{Conversion, Link, Node, Plan};
 use crate::random::Random;
@@ -361,14 +361,29 @@ impl Grower<'_> {
             length: 0,
             range,
             values: body.values,
+            zeros: 0,
         };
+        if self.r.chance(20) {
+            c.zeros = self.zeros(&c);
+        }
         c.length = self.length(&c);
         self.add(Node::Conversion(c))
+    }
+
+    /// Zero bytes behind the values. Without a range mostly so few that they are not read as one.
+    fn zeros(&mut self, c: &Conversion) -> usize {
+        match c.range {
+            None if self.r.chance(90) => self.r.pick(&[1, 7, 8, 8, 15]),
+            _ => self.r.pick(&[1, 7, 8, 15, 16, 17, 24, 40]),
+        }
     }
 
     /// A block length that says whether there is a range: mostly exact, sometimes at the edge or far off.
     fn length(&mut self, c: &Conversion) -> u64 {
         let (size, edge) = (c.size() as u64, c.range_from());
+        if c.zeros > 0 {
+            return size + c.zeros as u64;
+        }
         let far = self.r.below(edge as usize) as u64;
         let lengths = match c.range {
             Some(_) => [size, size, edge, edge + 8, u64::MAX, edge + far],

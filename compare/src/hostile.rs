@@ -54,6 +54,7 @@ impl Hostile<'_> {
             length: 0,
             range: None,
             values,
+            zeros: 0,
         };
         c.length = c.size() as u64;
         self.nodes.push(Node::Conversion(c));

@@ -1,6 +1,7 @@
 // Two comparisons of a scene: of a side with the crate, in the domain, and of two sides with each other, everywhere.
 use crate::bound::tree_of;
 use crate::domain::{self, Place};
+use crate::padding::{kept_alike, kept_like, parsed_back};
 use crate::scene::{Ask, Fields, Scene};
 use crate::second::{Second, RIGHT};
 use crate::side::{Applied, Checked, Side, Value, STANDARD};
@@ -21,19 +22,19 @@ pub struct Difference {
 
 pub type Verdict = Result<(), Difference>;
 
-fn same<T: PartialEq + Debug>(what: &'static str, a: T, b: T) -> Verdict {
+pub fn same<T: PartialEq + Debug>(what: &'static str, a: T, b: T) -> Verdict {
     if a == b {
         return Ok(());
     }
     Err(Difference { what, detail: format!("{a:?}\n  against {b:?}") })
 }
 
-fn differs(what: &'static str, detail: String) -> Verdict {
+pub fn differs(what: &'static str, detail: String) -> Verdict {
     Err(Difference { what, detail })
 }
 
 /// An output buffer with known bytes.
-fn output(room: usize) -> Vec<u8> {
+pub fn output(room: usize) -> Vec<u8> {
     (0..room).map(|i| (i * 7 + 3) as u8).collect()
 }
 
@@ -49,6 +50,7 @@ const CRATE_TEXTS: u64 = 4_000_000;
 /// A side against the crate.
 pub fn with_crate(side: &dyn Side, scene: &Scene, tally: &mut Tally) -> Verdict {
     written_fields(side, &scene.fields, tally)?;
+    written_fields(side, &scene.padded, tally)?;
     if (scene.address as u128 + 24) > scene.image.len() as u128 || has_huge_links(&scene.image) {
         return Ok(());
     }
@@ -61,14 +63,15 @@ pub fn with_crate(side: &dyn Side, scene: &Scene, tally: &mut Tally) -> Verdict 
         }
         _ => {}
     }
-    if scene.hostile && tree_of(&scene.image, scene.address, &mut HashMap::new()).texts > CRATE_TEXTS {
-        tally.add("crate, hostile images", "not asked, too much text");
+    if has_too_much_text(scene, tally) {
         return Ok(());
     }
-    tally.add_if(scene.hostile, "crate, hostile images", "asked");
     let checked = side.check(&scene.image, scene.address, CRATE_LIMIT);
     let theirs = theirs::resolved(&scene.image, scene.address);
     compare_walk(checked, &theirs, tally)?;
+    if let Outcome::Answer(block) = &theirs {
+        kept_like(side, scene, block, tally)?;
+    }
     match domain::place(&scene.image, scene.address, scene.limit) {
         Place::Outside(reasons) => {
             reasons.iter().for_each(|why| tally.add("outside the domain, by reason", why));
@@ -86,6 +89,13 @@ pub fn with_crate(side: &dyn Side, scene: &Scene, tally: &mut Tally) -> Verdict 
     Ok(())
 }
 
+/// Whether a hostile image has more text than the crate is asked to copy.
+fn has_too_much_text(scene: &Scene, tally: &mut Tally) -> bool {
+    let too_much = scene.hostile && tree_of(&scene.image, scene.address, &mut HashMap::new()).texts > CRATE_TEXTS;
+    tally.add_if(scene.hostile, "crate, hostile images", if too_much { "not asked, too much text" } else { "asked" });
+    too_much
+}
+
 /// Outside the domain for one reason, where the walk is accepted: the reason, and what differs from the crate if anything does.
 pub fn parting(side: &dyn Side, scene: &Scene) -> Option<(&'static str, Verdict)> {
     let Place::Outside(reasons) = domain::place(&scene.image, scene.address, scene.limit) else { return None };
@@ -101,7 +111,7 @@ pub fn parting(side: &dyn Side, scene: &Scene) -> Option<(&'static str, Verdict)
     Some((why, verdict))
 }
 
-fn has_huge_links(image: &[u8]) -> bool {
+pub fn has_huge_links(image: &[u8]) -> bool {
     let huge = |w: &[u8]| &w[..4] == b"##CC" && u64::from_le_bytes(w[16..24].try_into().unwrap()) > CRATE_LINKS;
     image.windows(24).any(huge)
 }
@@ -183,9 +193,9 @@ fn written_block(side: &dyn Side, record: crate::side::Block, block: &Conversion
     same("a parsed block written", (written.refusal, written.length, &out), (0, bytes.len() as u64, &bytes))
 }
 
-/// Fields of any kind, written. The crate writes the stored value count, so that count has to be the right one.
+/// Fields of any kind, written. The crate writes the stored value count, so that count has to be the right one, and it knows no excess.
 fn written_fields(side: &dyn Side, f: &Fields, tally: &mut Tally) -> Verdict {
-    if f.block.val_count as usize != f.words.len() {
+    if f.block.val_count as usize != f.words.len() || f.block.excess != 0 {
         return Ok(());
     }
     let theirs = theirs::block_of(&f.block, &f.refs, &f.words);
@@ -196,7 +206,7 @@ fn written_fields(side: &dyn Side, f: &Fields, tally: &mut Tally) -> Verdict {
         tally.add("crate, blocks written", "longer than the room");
         return same("a block without room", (written.refusal, &out), (8, &output(f.room)));
     }
-    tally.add("crate, blocks written", "from fields");
+    tally.add("crate, blocks written", if f.block.reserved == 0 { "from fields" } else { "from fields with reserved bytes" });
     let mut expected = output(f.room);
     expected[..bytes.len()].copy_from_slice(&bytes);
     same("fields written", (written.refusal, written.length, &out), (0, bytes.len() as u64, &expected))
@@ -302,8 +312,10 @@ pub fn with_side(a: &dyn Side, b: &dyn Side, scene: &Scene, tally: &mut Tally) -
     let parsed = a.parse(image, address);
     same("the parse", parsed, b.parse(image, address))?;
     tally.add("second reading, parses by refusal", parsed.refusal);
+    kept_alike(a, b, scene, &parsed, tally)?;
     count_few_links(scene, checked, parsed.refusal, tally);
     fields_alike(a, b, &scene.fields, tally)?;
+    fields_alike(a, b, &scene.padded, tally)?;
     for ask in &scene.asks {
         let (mut out_a, mut out_b) = (output(ask.room), output(ask.room));
         let ours = a.apply(image, address, limit, ask.value, &ask.text, &mut out_a);
@@ -389,5 +401,9 @@ fn fields_alike(a: &dyn Side, b: &dyn Side, f: &Fields, tally: &mut Tally) -> Ve
     tally.add("second reading, blocks written by refusal", ours.refusal);
     let from = if ours.refusal == 0 { ours.length as usize } else { 0 };
     same("bytes behind the block", &out_a[from..], &output(f.room)[from..])?;
-    same("the block written", (ours, &out_a), (other, &out_b))
+    same("the block written", (ours, &out_a), (other, &out_b))?;
+    if ours.refusal != 0 {
+        return Ok(());
+    }
+    parsed_back(a, f, &out_a[..from])
 }

@@ -165,6 +165,14 @@ impl<S: Side> Side for Guarded<S> {
         answer
     }
 
+    fn parse_kept(&self, image: &[u8], address: u64) -> Parsed {
+        let back = self.turn();
+        let lent = self.image.lend(image, back);
+        let answer = self.side.parse_kept(lent, address);
+        self.look(&self.image, image, lent, back, "parse_kept: the image or its guard has changed");
+        answer
+    }
+
     fn write(&self, block: Block, refs: &[u64], words: &[u64], out: &mut [u8]) -> Written {
         let back = self.turn();
         let (lent_refs, lent_words) = (self.refs.lend_words(refs, back), self.words.lend_words(words, back));

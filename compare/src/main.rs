@@ -18,6 +18,7 @@ mod judge;
 mod lent;
 mod numbers;
 mod ours;
+mod padding;
 mod part;
 mod plan;
 mod random;

@@ -111,6 +111,30 @@ pub fn edition(r: &mut Random) -> u32 {
     }
 }
 
+/// The four bytes behind an id: zero half of the time.
+pub fn reserved(r: &mut Random) -> u32 {
+    match r.below(10) {
+        0..=4 => 0,
+        5 | 6 => u32::MAX,
+        7 => r.pick(&[1, 256, 1 << 16, 1 << 31]),
+        _ => r.next() as u32,
+    }
+}
+
+const EXCESSES: &[u64] = &[1, 7, 8, 15, 15, 16, 16, 17, 24];
+const HUGE_EXCESSES: &[u64] = &[u64::MAX, u64::MAX, u64::MAX - 63, u64::MAX - 127, 1 << 63, 1 << 32, (1 << 32) + 8];
+
+/// The excess of a block length: none, at the edge of a range, some bytes, or more than any room.
+pub fn excess(r: &mut Random) -> u64 {
+    match r.below(20) {
+        0..=7 => 0,
+        8..=13 => r.pick(EXCESSES),
+        14..=16 => r.below(48) as u64,
+        17 => r.below(5000) as u64,
+        _ => r.pick(HUGE_EXCESSES),
+    }
+}
+
 /// A number of the palette, or one beside it or half-way between two.
 fn near(r: &mut Random, palette: &[u64]) -> f64 {
     let (a, b) = (f64::from_bits(r.pick(palette)), f64::from_bits(r.pick(palette)));

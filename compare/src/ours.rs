@@ -63,6 +63,7 @@ extern "C" {
     fn mdf_apply_mode_other(image: Bytes, image_len: usize, address: u64, limit: u32, mode: Mode, out: *mut u8, out_len: usize) -> Applied;
     fn mdf_translate(image: Bytes, image_len: usize, address: u64, limit: u32, question: Bytes, question_len: usize) -> Shown;
     fn mdf_parse(image: Bytes, image_len: usize, address: u64) -> Parsed;
+    fn mdf_parse_kept(image: Bytes, image_len: usize, address: u64) -> Parsed;
     fn mdf_write(block: Block, refs: *const u64, refs_len: usize, words: *const u64, words_len: usize, out: *mut u8, out_len: usize) -> Written;
 }
 
@@ -105,6 +106,10 @@ impl Side for Ours {
 
     fn parse(&self, image: &[u8], address: u64) -> Parsed {
         unsafe { mdf_parse(image.as_ptr(), image.len(), address) }
+    }
+
+    fn parse_kept(&self, image: &[u8], address: u64) -> Parsed {
+        unsafe { mdf_parse_kept(image.as_ptr(), image.len(), address) }
     }
 
     fn write(&self, block: Block, refs: &[u64], words: &[u64], out: &mut [u8]) -> Written {

@@ -23,6 +23,8 @@ pub struct Conversion {
     pub length: u64,
     pub range: Option<(u64, u64)>,
     pub values: Vec<u64>,
+    /// So many zero bytes behind the values.
+    pub zeros: usize,
 }
 
 pub enum Node {
@@ -77,7 +79,7 @@ impl Conversion {
 impl Node {
     fn size(&self) -> usize {
         match self {
-            Node::Conversion(c) => c.size(),
+            Node::Conversion(c) => c.size() + c.zeros,
             Node::Text { bytes, zeros, .. } => 24 + bytes.len() + zeros,
             Node::Bare { .. } => 24,
             Node::Foreign { body, .. } => 24 + body.len(),
@@ -150,6 +152,7 @@ impl Plan {
                 [c.flags, c.ref_count, c.values.len() as u16].iter().for_each(|h| b.0.extend(h.to_le_bytes()));
                 c.range.iter().for_each(|&(min, max)| b.words(&[min, max]));
                 b.words(&c.values);
+                b.0.extend(vec![0; c.zeros]);
             }
             Node::Text { bytes, zeros, length_off } => {
                 let length = (24 + bytes.len() + zeros) as i64 + length_off;

@@ -1,6 +1,6 @@
 // Makes a scene that shows a difference smaller as long as the same difference stays, and prints it.
 use crate::judge::Difference;
-use crate::scene::Scene;
+use crate::scene::{Fields, Scene};
 
 type Seen<'a> = &'a dyn Fn(&Scene) -> Option<Difference>;
 
@@ -62,14 +62,14 @@ pub fn tell_smallest(scene: Scene, seen: Seen) {
     let Some(difference) = seen(&small) else { return };
     println!("  smallest: {}: {}", difference.what, difference.detail);
     if difference.what.contains("block") || difference.what.contains("fields") {
-        tell_fields(&small);
+        tell_fields("fields", &small.fields);
+        tell_fields("padded fields", &small.padded);
     }
     tell(&small);
 }
 
-fn tell_fields(scene: &Scene) {
-    let f = &scene.fields;
-    println!("  fields {:?}", f.block);
+fn tell_fields(what: &str, f: &Fields) {
+    println!("  {what} {:?}", f.block);
     println!("  references {:x?} words {:x?} room {}", f.refs, &f.words[..f.words.len().min(20)], f.room);
 }
 

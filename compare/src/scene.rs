@@ -15,12 +15,16 @@ pub const ASKS: usize = 8;
 /// The last image of each so many is a hostile one.
 pub const HOSTILE_EVERY: u64 = 1000;
 
+/// No room is made for more excess than this.
+const MOST_EXCESS: u64 = 6000;
+
 /// A limit that no grown tree reaches.
 pub const WIDE_LIMIT: u32 = 20_000;
 
-/// Widths and editions are each drawn apart, so that they change no image and no value of a seed, nor each other.
+/// Widths, editions and padded fields are each drawn apart, so that they change no image and no value of a seed, nor each other.
 const WIDTHS: u64 = 0x7769_6474_6873;
 const EDITIONS: u64 = 0x6564_6974_696f_6e73;
+const PADDED: u64 = 0x7061_6464_6564;
 
 fn is_hostile(number: u64) -> bool {
     number % HOSTILE_EVERY == HOSTILE_EVERY - 1
@@ -66,6 +70,8 @@ pub struct Scene {
     pub limit: u32,
     pub asks: Vec<Ask>,
     pub fields: Fields,
+    /// Others, with padding.
+    pub padded: Fields,
     /// Whether the work of its calls is measured.
     pub hostile: bool,
 }
@@ -74,8 +80,9 @@ impl Scene {
     pub fn new(seed: u64, number: u64) -> Scene {
         let mut r = Random::new(seed, number);
         let mut modes = Modes::new(seed, number);
+        let padded = padded_fields(&mut Random::new(seed ^ PADDED, number));
         if is_hostile(number) {
-            return Scene::hostile(&mut r, &mut modes);
+            return Scene::hostile(&mut r, &mut modes, padded);
         }
         let grown = Grower::grow(&mut r);
         let mut laid = grown.plan.lay(&mut r);
@@ -92,11 +99,14 @@ impl Scene {
         if r.chance(8) {
             damage::few_links(&mut laid, address, &mut r);
         }
+        if r.chance(12) {
+            damage::padding(&mut laid, address, &mut r);
+        }
         assert!(laid.image.len() <= LARGEST_IMAGE);
         let limit = limit(&laid.image, address, &mut r);
         let root = RIGHT.opened(&laid.image, address);
         let wants_text = root.is_some_and(|b| b.kind == 9 || b.kind == 10);
-        let mut scene = Scene { image: laid.image, address, limit, asks: Vec::new(), fields: fields(&mut r), hostile: false };
+        let mut scene = Scene { image: laid.image, address, limit, asks: Vec::new(), fields: fields(&mut r, 0, 0), padded, hostile: false };
         for _ in 0..ASKS {
             let value = numbers::value(&mut r, &grown.palette, wants_text);
             let text = if value == Value::Text { numbers::question(&mut r, &grown.texts) } else { Vec::new() };
@@ -107,13 +117,13 @@ impl Scene {
     }
 
     /// A hostile image, which is not damaged; the room is mostly small.
-    fn hostile(r: &mut Random, modes: &mut Modes) -> Scene {
+    fn hostile(r: &mut Random, modes: &mut Modes, padded: Fields) -> Scene {
         let grown = hostile::grow(r);
         let laid = grown.plan.lay(r);
         let address = laid.places[grown.plan.root];
         let limit = limit(&laid.image, address, r);
         let wants_text = RIGHT.opened(&laid.image, address).is_some_and(|b| b.kind == 9 || b.kind == 10);
-        let mut scene = Scene { image: laid.image, address, limit, asks: Vec::new(), fields: fields(r), hostile: true };
+        let mut scene = Scene { image: laid.image, address, limit, asks: Vec::new(), fields: fields(r, 0, 0), padded, hostile: true };
         for _ in 0..ASKS {
             let value = match r.below(10) {
                 0 => numbers::value(r, &grown.palette, wants_text),
@@ -153,8 +163,23 @@ fn limit(image: &[u8], address: u64, r: &mut Random) -> u32 {
     }
 }
 
+fn padded_fields(r: &mut Random) -> Fields {
+    let (reserved, excess) = (numbers::reserved(r), numbers::excess(r));
+    fields(r, reserved, excess)
+}
+
+/// Room for a block of a size without its excess: mostly enough, sometimes just so, or for the block without its excess.
+fn block_room(size: usize, excess: u64, r: &mut Random) -> usize {
+    let whole = size + excess.min(MOST_EXCESS) as usize;
+    if r.chance(60) {
+        whole + r.below(9)
+    } else {
+        r.pick(&[whole, whole - 1, 0, 24, size / 2, size, size - 1])
+    }
+}
+
 /// Any fields for the writer. The stored value count is mostly the number of values, as the crate needs it.
-fn fields(r: &mut Random) -> Fields {
+fn fields(r: &mut Random, reserved: u32, excess: u64) -> Fields {
     let many = r.below(1000) == 0;
     let count = if many { r.pick(&[65_534, 65_535, 65_536, 65_537]) } else { r.below(8) };
     let words: Vec<u64> = (0..count).map(|_| if many { 7 } else { numbers::word(r) }).collect();
@@ -166,7 +191,7 @@ fn fields(r: &mut Random) -> Fields {
     let other = refs.len() % 2 == 1;
     let min_kept = if other && !range_min.is_nan() { max_word } else { min_word };
     let size = 64 + 8 * (refs.len() + words.len()) + 16 * ranged as usize;
-    let room = if r.chance(60) { size + r.below(9) } else { r.pick(&[size, size - 1, 0, 24, size / 2]) };
+    let room = block_room(size, excess, r);
     let link = |r: &mut Random| if r.chance(40) { 0 } else { r.next() >> r.below(64) };
     let block = Block {
         length: r.next() >> r.below(64),
@@ -179,6 +204,8 @@ fn fields(r: &mut Random) -> Fields {
         range_max,
         min_word: min_kept,
         max_word,
+        excess,
+        reserved,
         flags: r.next() as u16,
         ref_count: r.next() as u16,
         val_count: if r.chance(85) { words.len() as u16 } else { r.next() as u16 },

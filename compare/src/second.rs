@@ -1,13 +1,14 @@
-// A second reading of document 01 and requests [2], [5], [8] and [11], plain and slow: check, apply, parse, write and the type 10 entry. It judges
-// the proved build where the crate has no say, and with one rule broken (`wrong`) it is a wrong build that the comparison has to catch.
+// A second reading of document 01 and requests [2], [5], [6], [8] and [11], plain and slow: check, apply, parse, write and the type 10 entry. It
+// judges the proved build where the crate has no say, and with one rule broken (`wrong`) it is a wrong build that the comparison has to catch.
 mod apply;
 mod block;
+mod padding;
 mod rules;
 
 use crate::side::{Applied, Block, Checked, Mode, Parsed, Shown, Side, Value, Written, STANDARD};
 use crate::wrong::Wrong;
 use apply::{Application, Says};
-pub use block::Found;
+pub use block::{bound, Found};
 
 pub struct Second {
     pub wrong: Wrong,
@@ -140,7 +141,7 @@ impl Second {
             let met = match number {
                 3 => walk.visits + wanted > walk.limit,
                 18 => few,
-                4 => found.is_none(),
+                4 => self.is_short(walk.image, address, found.as_ref()),
                 _ => depth > deepest,
             };
             if met {
@@ -151,6 +152,11 @@ impl Second {
             }
         }
         found.ok_or((4, address))
+    }
+
+    /// Whether the image ends inside a block that was read, or could not be. Its block length plays no part in the check but in a wrong build.
+    fn is_short(&self, image: &[u8], address: u64, found: Option<&Found>) -> bool {
+        found.is_none_or(|found| self.is(Wrong::CheckRefusesExcess) && self.passes_end(image, address, found))
     }
 
     /// Whether the link count of a block at an address is below 4 (request [11]).
@@ -424,29 +430,14 @@ impl Side for Second {
     }
 
     fn parse(&self, image: &[u8], address: u64) -> Parsed {
-        match self.parsed(image, address) {
-            Ok(found) => Parsed { refusal: 0, address: 0, block: found.record() },
-            Err((refusal, address)) => Parsed { refusal, address, block: Block::default() },
-        }
+        self.parsed_plain(image, address)
+    }
+
+    fn parse_kept(&self, image: &[u8], address: u64) -> Parsed {
+        self.parsed_kept(image, address)
     }
 
     fn write(&self, block: Block, refs: &[u64], words: &[u64], out: &mut [u8]) -> Written {
-        let bytes = self.bytes_of(&block, refs, words);
-        let most = if self.is(Wrong::WriterCountOneLess) { 65_534 } else { 65_535 };
-        let count = if words.len() > most { 9 } else { 0 };
-        let room = if bytes.len() > out.len() { 8 } else { 0 };
-        if self.is(Wrong::WriterHeaderFirst) && out.len() >= 24 {
-            out[..24].copy_from_slice(&bytes[..24]);
-        }
-        let refusal = match (count, room) {
-            (9, 8) if self.is(Wrong::WriterRoomFirst) => 8,
-            (9, _) => 9,
-            (_, room) => room,
-        };
-        if refusal != 0 {
-            return Written { refusal, length: 0 };
-        }
-        out[..bytes.len()].copy_from_slice(&bytes);
-        Written { refusal: 0, length: bytes.len() as u64 }
+        self.written(block, refs, words, out)
     }
 }

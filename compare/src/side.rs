@@ -65,6 +65,9 @@ pub struct Block {
     pub range_max: f64,
     pub min_word: u64,
     pub max_word: u64,
+    /// How far the block length exceeds what was read, and the four bytes behind the id; 0 where parsing does not keep them.
+    pub excess: u64,
+    pub reserved: u32,
     pub flags: u16,
     pub ref_count: u16,
     pub val_count: u16,
@@ -98,6 +101,9 @@ pub trait Side {
     fn apply_at(&self, mode: Mode, image: &[u8], address: u64, limit: u32, value: Value, text: &[u8], out: &mut [u8]) -> Applied;
     fn translate(&self, image: &[u8], address: u64, limit: u32, question: &[u8]) -> Shown;
     fn parse(&self, image: &[u8], address: u64) -> Parsed;
+
+    /// The entry that keeps the padding.
+    fn parse_kept(&self, image: &[u8], address: u64) -> Parsed;
     fn write(&self, block: Block, refs: &[u64], words: &[u64], out: &mut [u8]) -> Written;
 
     /// What a call has touched that it may not, since this was last asked.
@@ -126,9 +132,14 @@ impl PartialEq for Block {
 }
 
 impl Block {
-    fn whole_numbers(&self) -> ([u64; 8], [u16; 3], u8, u8, bool) {
-        let words = [self.length, self.links, self.name, self.unit, self.comment, self.inverse, self.min_word, self.max_word];
-        (words, [self.flags, self.ref_count, self.val_count], self.kind, self.precision, self.ranged)
+    fn whole_numbers(&self) -> ([u64; 9], u32, [u16; 3], u8, u8, bool) {
+        let words = [self.length, self.links, self.name, self.unit, self.comment, self.inverse, self.min_word, self.max_word, self.excess];
+        (words, self.reserved, [self.flags, self.ref_count, self.val_count], self.kind, self.precision, self.ranged)
+    }
+
+    /// The bytes from the block's start to the end of its values.
+    pub fn bytes_read(&self) -> u64 {
+        64 + 8 * (self.links - 4) + 16 * self.ranged as u64 + 8 * self.val_count as u64
     }
 }
 

@@ -58,6 +58,10 @@ impl Side for Spills {
         RIGHT.parse(image, address)
     }
 
+    fn parse_kept(&self, image: &[u8], address: u64) -> Parsed {
+        RIGHT.parse_kept(image, address)
+    }
+
     fn write(&self, block: Block, refs: &[u64], words: &[u64], out: &mut [u8]) -> Written {
         RIGHT.write(block, refs, words, out)
     }

@@ -82,7 +82,7 @@ pub fn same_value(a: &DecodedValue, b: &DecodedValue) -> bool {
     }
 }
 
-/// The crate's record with NIL as 0 and no range as zeros.
+/// The crate's record with NIL as 0, no range as zeros, and no padding.
 pub fn record(block: &ConversionBlock) -> Block {
     let (min, max) = (block.cc_phy_range_min, block.cc_phy_range_max);
     Block {
@@ -96,6 +96,8 @@ pub fn record(block: &ConversionBlock) -> Block {
         range_max: max.unwrap_or(0.0),
         min_word: min.unwrap_or(0.0).to_bits(),
         max_word: max.unwrap_or(0.0).to_bits(),
+        excess: 0,
+        reserved: 0,
         flags: block.cc_flags,
         ref_count: block.cc_ref_count,
         val_count: block.cc_val_count,
@@ -111,7 +113,7 @@ pub fn block_of(b: &Block, refs: &[u64], words: &[u64]) -> ConversionBlock {
     // A NaN has the bits that are kept beside it.
     let bound = |float: f64, kept: u64| if float.is_nan() { f64::from_bits(kept) } else { float };
     ConversionBlock {
-        header: BlockHeader { id: "##CC".to_string(), reserved0: 0, block_len: b.length, links_nr: b.links },
+        header: BlockHeader { id: "##CC".to_string(), reserved0: b.reserved, block_len: b.length, links_nr: b.links },
         cc_tx_name: link(b.name),
         cc_md_unit: link(b.unit),
         cc_md_comment: link(b.comment),

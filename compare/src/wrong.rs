@@ -1,5 +1,5 @@
-// The wrong builds: each is the second reading with one rule of document 01 or of requests [2], [5], [8] and [11] broken. WRONG-BUILDS.md is this
-// list in words.
+// The wrong builds: each is the second reading with one rule of document 01 or of requests [2], [5], [6], [8] and [11] broken. WRONG-BUILDS.md is
+// this list in words.
 
 /// Who has to catch a wrong build: the crate; the proved build where the crate has no such rule or no say; the clock where all answers are right.
 #[derive(Clone, Copy, Debug, PartialEq, Eq)]
@@ -237,4 +237,42 @@ wrong_builds! {
     FewWithVisits Ours "an application that is refused with 18 carries the visits begun",
     FewTouchesOutput Ours "a call that is refused with 18 has written to the output",
     FewShown Ours "the type 10 entry shows a text where the check refuses with 18",
+    PaddingSixteenTaken Ours "writing: 16 bytes of excess are taken without a range",
+    PaddingFifteenRefused Ours "writing: 15 bytes of excess are refused with 23 without a range",
+    PaddingWithRangeRefused Ours "writing: 16 bytes of excess are refused with 23 with a range too",
+    PaddingAfterRoom Ours "writing: refusal 8 comes before 23",
+    PaddingBeforeCount Ours "writing: refusal 23 comes before 9",
+    PaddingWithLength Ours "refusal 23 carries the length",
+    PaddingTouchesOutput Ours "a call that is refused with 23 has written to the output",
+    PaddedBlockFirst Ours "a block is written before the room for its excess is known",
+    WrittenLengthWithoutExcess Ours "the written block length leaves out the excess",
+    WrittenExcessLeft Ours "the excess is counted and not written",
+    WrittenExcessLastLeft Ours "the last byte of the excess is not written",
+    WrittenExcessOnes Ours "the excess is written as bytes of 255",
+    WrittenExcessCut Ours "the excess is cut at the room",
+    WrittenExcessLowBits Ours "the excess to write is taken by its low 32 bits",
+    WrittenExcessRounded Ours "the excess to write is rounded up to a multiple of 8",
+    WrittenSizeWraps Ours "the size of what is written is computed in 64 bits and wraps",
+    WrittenReservedZero Crate "the reserved bytes are written as zeros",
+    WrittenReservedSwapped Crate "the reserved bytes are written big-endian",
+    KeptReservedLost Crate "parsing that keeps the padding leaves the reserved bytes 0",
+    KeptReservedSwapped Crate "the reserved bytes are read big-endian",
+    KeptReservedLostWhenSmaller Crate "the reserved bytes are lost where the block length is below the bytes read",
+    KeptExcessLost Ours "parsing that keeps the padding leaves the excess 0",
+    KeptExcessWithRange Ours "the range counts as excess",
+    KeptExcessToFirstByte Ours "the excess ends at its first byte that is not zero",
+    KeptNonZeroRefused Ours "a block is refused with 4 where its excess is not zero",
+    KeptSmallerRefused Crate "parsing that keeps the padding refuses a block length below the bytes read",
+    KeptEndUntested Ours "excess past the image end is taken",
+    KeptEndOneMore Ours "excess that ends one byte past the image is taken",
+    KeptEndOneLess Ours "excess that ends with the image is refused",
+    KeptEndWraps Ours "address + block length is computed in 64 bits and wraps",
+    KeptEndWithoutAddress Ours "the block length alone is compared with the image's",
+    KeptShortWithoutAddress Ours "refusal 4 for the excess carries no address",
+    KeptShortShowsFields Ours "a block that is refused for its excess shows its fields",
+    FewAfterShortKept Ours "parsing that keeps the padding: refusal 4 comes before 18",
+    PlainRefusesExcess Crate "plain parsing refuses excess past the image end",
+    PlainKeepsReserved Ours "plain parsing keeps the reserved bytes",
+    PlainKeepsExcess Crate "plain parsing keeps the excess",
+    CheckRefusesExcess Crate "the check refuses excess past the image end",
 }

@@ -14,6 +14,14 @@ static inline void put(uint64_t word, size_t bytes) {
     for (size_t i = 0; i < bytes; i++) built[built_len++] = (uint8_t)(word >> (8 * i));
 }
 
+/* The same at a place that was built before. */
+static inline void put_at(uint64_t place, uint64_t word, size_t bytes) {
+    size_t end = built_len;
+    built_len = place;
+    put(word, bytes);
+    built_len = end;
+}
+
 static inline void put_header(const char *id, uint64_t length, uint64_t links) {
     memcpy(built + built_len, id, 4);
     memset(built + built_len + 4, 0, 4);

@@ -1,5 +1,5 @@
-/* Images on which only a call whose work is bounded ends at all: some hundred thousand references to one text of 64 MB. Each call has to end, with
- * the right answer. No time is asserted: a watchdog stops the program where a call does not end.
+/* Images on which only a call whose work is bounded ends at all: some hundred thousand references to one text of 64 MB, or as many calls on a block
+ * with an excess of 64 MB. Each call has to end, with the right answer. No time is asserted: a watchdog stops the program where a call does not end.
  *
  * The bound that holds for every call stands in mdf_conversion.h, "What a call can cost". */
 #define _POSIX_C_SOURCE 200809L
@@ -13,13 +13,14 @@
 #include <stdlib.h>
 #include <unistd.h>
 
-#define PATIENCE 60           /* seconds a call may take; a bounded one takes some hundredths of a second */
+#define PATIENCE 60           /* seconds an image may take; bounded calls take some hundredths of a second */
 #define LONG ((size_t)1 << 26) /* bytes of the long text */
 #define CAPACITY (LONG + ((size_t)1 << 25))
 #define LIMIT 100000
 #define ROOM 64
 #define FILL 0xa5
 #define ALL_BITS UINT64_MAX
+#define OFTEN 200000 /* calls on one block, where a single one would end even if it looked at every byte */
 
 static uint64_t long_text, short_text; /* "xxx..", and "x" */
 static size_t behind_texts;
@@ -240,6 +241,65 @@ static void few_links_behind(void) {
     expect_refused(mdf_check(built, built_len, at, UINT32_MAX), MDF_REFUSED_FEW_LINKS, few);
 }
 
+#define READ 80             /* bytes of a block with a range and nothing else that are read */
+#define PADDED (READ + LONG) /* the same with 64 MB of excess */
+
+static bool all_are(uint8_t byte, size_t from, size_t to) {
+    while (from < to && built[from] == byte) from++;
+    return from == to;
+}
+
+/* The texts are overwritten: from here on there is one block, at 0. */
+static void written_with_padding(void) {
+    begin("a block with 64 MB of excess, written");
+    mdf_block b = {.excess = LONG, .reserved = 0x04030201, .ranged = 1};
+    uint64_t nothing = 0;
+    mdf_written w = mdf_write(b, &nothing, 0, &nothing, 0, built, CAPACITY);
+    expect(w.refusal == 0 && w.length == PADDED && all_are(0, 64, PADDED) && all_are('x', PADDED, behind_texts));
+}
+
+/* Parses the block so often with its padding, and this block length. Each time it is refused exactly where that passes the image end. */
+static void expect_excess(uint64_t length) {
+    bool right = true;
+    put_at(8, length, 8);
+    for (int i = 0; right && i < OFTEN; i++) {
+        mdf_parsed p = mdf_parse_kept(built, PADDED, 0);
+        right = length <= PADDED ? p.refusal == 0 && p.block.length == length && p.block.excess == length - READ && p.block.reserved == 0x04030201
+                                 : p.refusal == MDF_REFUSED_SHORT && p.address == 0 && p.block.length == 0 && p.block.excess == 0;
+    }
+    expect(right);
+}
+
+static void parsed_with_padding(void) {
+    begin("a block with up to 64 MB of excess, parsed with its padding");
+    expect_excess(PADDED);
+    expect_excess(PADDED - 1);
+    begin("a block whose excess passes the image end, parsed with its padding");
+    expect_excess(PADDED + 1);
+    expect_excess(UINT64_C(1) << 63);
+    expect_excess(UINT64_MAX);
+}
+
+/* Writes a block of no references and no values so often, with room for 64 bytes and no more. */
+static void expect_unwritten(uint64_t excess, uint8_t ranged, uint32_t refusal) {
+    mdf_block b = {.excess = excess, .ranged = ranged};
+    bool right = true;
+    for (int i = 0; right && i < OFTEN; i++) {
+        mdf_written w = mdf_write(b, &excess, 0, &excess, 0, out, sizeof out);
+        right = w.refusal == refusal && w.length == 0;
+    }
+    expect(right && untouched(0));
+}
+
+static void not_written_with_padding(void) {
+    static const uint64_t huge[] = {LONG, UINT64_C(1) << 63, UINT64_MAX - 63, UINT64_MAX};
+    begin("a block with a huge excess, written into 64 bytes");
+    for (size_t i = 0; i < sizeof huge / sizeof *huge; i++) {
+        expect_unwritten(huge[i], 1, MDF_REFUSED_ROOM);
+        expect_unwritten(huge[i], 0, MDF_REFUSED_PADDING);
+    }
+}
+
 int main(void) {
     signal(SIGALRM, stopped);
     built = malloc(CAPACITY);
@@ -259,6 +319,9 @@ int main(void) {
     number_to_text();
     linked_again();
     few_links_behind();
+    written_with_padding();
+    parsed_with_padding();
+    not_written_with_padding();
     alarm(0);
     free(built);
     printf("hostile images: %d passed, %d failed\n", passed, failed);

@@ -48,7 +48,8 @@
  *   the block at `address`. A text of the image is looked at no further than one byte past the room that is left, a key no further than one byte
  *   past the value's end: how long a text is plays no part, nor how many references lead to it.
  * - mdf_translate takes what the check and the keys take, and reads the text that it shows once, to its end.
- * - mdf_parse, mdf_reference and mdf_value_word take a constant, however large the block; mdf_write takes what it writes.
+ * - mdf_parse, mdf_parse_kept, mdf_reference and mdf_value_word take a constant, however large the block: excess bytes are not looked at.
+ * - mdf_write takes what it writes, its excess with it, so that no excess costs more than the length of `out`: what does not fit is not begun.
  *
  * So `limit` and the length of `out` are the caller's brake. Choose a limit well above the nested blocks that one conversion is expected to have:
  * 4096 is generous, while 4294967295 lets an image of some kilobytes begin that many visits. Choose `out` as long as the longest text that can be shown: a
@@ -71,7 +72,7 @@ enum mdf_refusal {
     MDF_REFUSED_OUTSIDE = 1,        /* root address + 24 is beyond the image */
     MDF_REFUSED_NOT_CONVERSION = 2, /* the root's id is not ##CC */
     MDF_REFUSED_LIMIT = 3,          /* a visit would exceed the visit limit */
-    MDF_REFUSED_SHORT = 4,          /* the image ends inside a ##CC block */
+    MDF_REFUSED_SHORT = 4,          /* the image ends inside a ##CC block; out of mdf_parse_kept also inside its excess */
     MDF_REFUSED_DEEP = 5,           /* a block at depth 21; the root has depth 0 */
     MDF_REFUSED_LOOP = 6,           /* a link back to a block on the current path */
     MDF_REFUSED_FORMULA = 7,        /* applying reaches a formula (type 3) with a number */
@@ -79,7 +80,8 @@ enum mdf_refusal {
     MDF_REFUSED_COUNT = 9,          /* more than 65,535 values to write */
     MDF_REFUSED_WIDTH = 11,         /* the width of a mode is 0 or above 64 */
     MDF_REFUSED_EDITION = 16,       /* the edition of a mode is neither 410 nor 420 */
-    MDF_REFUSED_FEW_LINKS = 18      /* a ##CC block whose link count is below 4; the program repair_block writes it with 4 */
+    MDF_REFUSED_FEW_LINKS = 18,     /* a ##CC block whose link count is below 4; the program repair_block writes it with 4 */
+    MDF_REFUSED_PADDING = 23        /* 16 or more bytes of excess to write behind a block without a range: they would be read as one */
 };
 
 /* What an application answers. */
@@ -138,6 +140,9 @@ typedef struct {
     uint64_t name, unit, comment, inverse;   /* the four fixed links */
     double range_min, range_max;             /* 0 where there is no range */
     uint64_t min_word, max_word;             /* the 64 bits of the range as they stand in the image: a NaN keeps its own here */
+    uint64_t excess;                         /* by how many bytes the block length exceeds what was read; for writing: how many zero bytes go
+                                                behind the values. 0 out of mdf_parse */
+    uint32_t reserved;                       /* the four bytes behind the id, little-endian. 0 out of mdf_parse */
     uint16_t flags;
     uint16_t ref_count;                      /* the reference count field; the block has links - 4 references */
     uint16_t val_count;                      /* how many values the block has */
@@ -224,11 +229,20 @@ mdf_applied mdf_apply_mode_other(const uint8_t *image, size_t image_len, uint64_
  * question. Answers the question itself where the check refuses, the root has another type, or no text is chosen. Names no refusal. */
 mdf_shown mdf_translate(const uint8_t *image, size_t image_len, uint64_t address, uint32_t limit, const uint8_t *question, size_t question_len);
 
-/* Reads the fields of the one block at `address`. Answers them, or refusal 1, 2, 18 or 4, tested in that order.
+/* Reads the fields of the one block at `address`; its padding is left out: `reserved` and `excess` are 0. Answers them, or refusal 1, 2, 18 or 4,
+ * tested in that order.
  * The parsed block lies whole in the image, all numbers little-endian and unaligned; mdf_reference and mdf_value_word read these by place:
  * - its references, 8 bytes each, from address + 56 on: links - 4 of them;
  * - its values, 8 bytes each, val_count of them, from address + 64 + 8 * references on, and 16 more where there is a range. */
 mdf_parsed mdf_parse(const uint8_t *image, size_t image_len, uint64_t address);
+
+/* As mdf_parse, and keeps the padding, so that the block can be written as long as it was. `reserved` has the four bytes behind the id. `excess` has
+ * how far the block length exceeds the bytes that were read, from the address to the end of the values; 0 where the block length is below that, and
+ * never more than 15 without a range, since 16 are one. What the excess bytes hold is not looked at, but they have to lie in the image: refuses as
+ * mdf_parse does, and then with 4 where they pass its end.
+ * Writing what was parsed, with the block's references and the words of its values, returns its bytes, where the excess bytes are zero and the block
+ * length is not below the bytes that were read. */
+mdf_parsed mdf_parse_kept(const uint8_t *image, size_t image_len, uint64_t address);
 
 /* Reads one reference of the block at `address`, the first of which has index 0. Answers its word, which is a link; or that the block has no such
  * reference, for every index from its number of references on; or refusal 1, 2, 18 or 4, as mdf_parse does. */
@@ -237,12 +251,12 @@ mdf_word mdf_reference(const uint8_t *image, size_t image_len, uint64_t address,
 /* As mdf_reference, for one of the block's val_count values. Its word has the 64 bits of a double, or of a mask in bit groups. */
 mdf_word mdf_value_word(const uint8_t *image, size_t image_len, uint64_t address, uint64_t index);
 
-/* Writes a block with these references and these values, each value as its 64 bits.
- * Of `block` it takes the four fixed links, kind, precision, flags, ref_count and, where `ranged` is not 0, the range. A range bound that is a NaN
- * is written as its word if that is a NaN too, else as 0x7ff8000000000000; any other bound as it is, whatever its word. The link count is
- * 4 + refs_len, the value count words_len, the block length what is written.
- * Answers how many bytes it wrote; or refusal 9, or 8. Afterwards the block stands in `out` from byte 0 on and the bytes behind it are as they
- * were. After a refusal all of `out` is as it was. */
+/* Writes a block with these references and these values, each value as its 64 bits, and `excess` zero bytes behind them.
+ * Of `block` it takes the reserved bytes, the four fixed links, kind, precision, flags, ref_count, excess and, where `ranged` is not 0, the range. A
+ * range bound that is a NaN is written as its word if that is a NaN too, else as 0x7ff8000000000000; any other bound as it is, whatever its word.
+ * The link count is 4 + refs_len, the value count words_len, the block length what is written, the excess with it.
+ * Answers how many bytes it wrote; or refusal 9, 23 or 8, tested in that order, the sums exact however large the excess is. Afterwards the block
+ * stands in `out` from byte 0 on and the bytes behind it are as they were. After a refusal all of `out` is as it was. */
 mdf_written mdf_write(mdf_block block, const uint64_t *refs, size_t refs_len, const uint64_t *words, size_t words_len, uint8_t *out,
                       size_t out_len);
 

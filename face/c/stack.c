@@ -37,10 +37,17 @@ static void translate(void) { shown = mdf_translate(image, built_len, root, LIMI
 static void parse_and_write(void) {
     mdf_parsed p = mdf_parse(image, built_len, root);
     uint64_t words[2] = {1, 2};
-    refusal = p.refusal | mdf_write(p.block, words, 2, words, 2, out, sizeof out).refusal;
+    refusal |= p.refusal | mdf_write(p.block, words, 2, words, 2, out, sizeof out).refusal;
 }
 
-static void read_by_place(void) { refusal = mdf_reference(image, built_len, root, 0).refusal | mdf_value_word(image, built_len, root, 0).refusal; }
+static void parse_kept_and_write(void) {
+    mdf_parsed p = mdf_parse_kept(image, built_len, root);
+    uint64_t words[2] = {1, 2};
+    p.block.excess = 8;
+    refusal |= p.refusal | mdf_write(p.block, words, 2, words, 2, out, sizeof out).refusal;
+}
+
+static void read_by_place(void) { refusal |= mdf_reference(image, built_len, root, 0).refusal | mdf_value_word(image, built_len, root, 0).refusal; }
 
 static void (*job)(void);
 static void run(void) { job(); }
@@ -110,14 +117,15 @@ static bool is_deepest(void (*f)(void)) {
 int main(void) {
     size_t walked = most_of(11, check), by_key = most_of(7, apply), by_range = most_of(8, apply), by_bits = most_of(11, apply);
     size_t in_a_mode = most_of(11, apply_mode);
-    size_t by_text = most_of(10, translate), one_block = most_of(11, parse_and_write), one_word = most_of(11, read_by_place);
+    size_t by_text = most_of(10, translate), one_block = most_of(11, parse_and_write), padded = most_of(11, parse_kept_and_write);
+    size_t one_word = most_of(11, read_by_place);
     build(11, 11);
     if (!is_deepest(apply) || !is_deepest(apply_mode) || refusal != 0) {
         printf("stack: the deepest bit groups gave no text, or a block was not written or read\n");
         return 1;
     }
     printf("stack below the caller at 21 levels, bytes: check %zu, type 7 %zu, type 8 %zu, bit groups %zu, in a mode %zu, type 10 shown %zu; one block %zu, "
-           "one word %zu\n",
-           walked, by_key, by_range, by_bits, in_a_mode, by_text, one_block, one_word);
+           "with its padding %zu, one word %zu\n",
+           walked, by_key, by_range, by_bits, in_a_mode, by_text, one_block, padded, one_word);
     return 0;
 }

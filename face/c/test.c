@@ -1,4 +1,4 @@
-/* Calls each function of mdf_conversion.h: every line of document 01's "Cases", every refusal from 1 to 9, 11, 16 and 18.
+/* Calls each function of mdf_conversion.h: every line of document 01's "Cases", every refusal from 1 to 9, 11, 16, 18 and 23.
  *
  * The images are built here byte by byte. Each call gets its image in a block of the heap of exactly its length, so that valgrind sees a read past
  * its end, and an output buffer between guard bytes. After each call every byte that should be as it was is compared. */
@@ -20,6 +20,8 @@
 /* What C programs that were compiled apart rely on. */
 _Static_assert(sizeof(mdf_mode) == 8 && offsetof(mdf_mode, edition) == 4, "mdf_mode has 8 bytes, and `edition` at 4");
 _Static_assert(sizeof(mdf_applied) == 48 && offsetof(mdf_applied, malformed) == 40, "mdf_applied has 48 bytes, and `malformed` at 40");
+_Static_assert(sizeof(mdf_block) == 104 && offsetof(mdf_block, excess) == 80 && offsetof(mdf_block, reserved) == 88,
+               "mdf_block has 104 bytes, `excess` at 80 and `reserved` at 88");
 
 static int passed, failed;
 
@@ -49,6 +51,14 @@ static void begin(void) {
 /* The low bytes of a word, at most 8. */
 static void put(uint64_t word, size_t bytes) {
     for (size_t i = 0; i < bytes; i++) built[built_len++] = (uint8_t)(word >> (8 * i));
+}
+
+/* The same at a place that was built before. */
+static void put_at(uint64_t place, uint64_t word, size_t bytes) {
+    size_t end = built_len;
+    built_len = place;
+    put(word, bytes);
+    built_len = end;
 }
 
 static void put_header(const char *id, uint64_t length, uint64_t links) {
@@ -773,16 +783,24 @@ static void translation_cases(void) {
 static bool same_block(mdf_block a, mdf_block b) {
     return a.length == b.length && a.links == b.links && a.name == b.name && a.unit == b.unit && a.comment == b.comment &&
            a.inverse == b.inverse && same_double(a.range_min, b.range_min) && same_double(a.range_max, b.range_max) &&
-           a.min_word == b.min_word && a.max_word == b.max_word && a.flags == b.flags && a.ref_count == b.ref_count &&
-           a.val_count == b.val_count && a.kind == b.kind && a.precision == b.precision && a.ranged == b.ranged;
+           a.min_word == b.min_word && a.max_word == b.max_word && a.excess == b.excess && a.reserved == b.reserved && a.flags == b.flags &&
+           a.ref_count == b.ref_count && a.val_count == b.val_count && a.kind == b.kind && a.precision == b.precision && a.ranged == b.ranged;
 }
 
-static void parse_is_refused(const char *name, uint64_t address, uint32_t refusal) {
-    static const mdf_block none;
+typedef mdf_parsed (*parser)(const uint8_t *image, size_t image_len, uint64_t address);
+
+static void parses(const char *name, parser parse, uint64_t address, mdf_parsed wanted) {
     uint8_t *image = lent_image();
-    mdf_parsed parsed = mdf_parse(image, built_len, address);
-    expect(parsed.refusal == refusal && parsed.address == address && same_block(parsed.block, none), name);
+    mdf_parsed p = parse(image, built_len, address);
+    expect(p.refusal == wanted.refusal && p.address == wanted.address && same_block(p.block, wanted.block), name);
     give_back_image(image, name);
+}
+
+/* Refused without the padding and with it. */
+static void parse_is_refused(const char *name, uint64_t address, uint32_t refusal) {
+    mdf_parsed wanted = {.refusal = refusal, .address = address};
+    parses(name, mdf_parse, address, wanted);
+    parses(name, mdf_parse_kept, address, wanted);
 }
 
 static void parse_refusals(void) {
@@ -818,12 +836,13 @@ static mdf_block all_fields(void) {
     return b;
 }
 
-/* The bytes of that block with some_refs and some_words. */
-static void build_all_fields(void) {
-    mdf_block b = all_fields();
-    begin();
-    built_len = 0;
-    put_header("##CC", 120, 7);
+#define READ (64 + 8 * (COUNT_OF(some_refs) + COUNT_OF(some_words))) /* bytes of a block with these, but for a range and an excess */
+
+/* The bytes of a block with some_refs and some_words, and of its range and its excess, if it has them. Answers its address. */
+static uint64_t put_block(mdf_block b) {
+    uint64_t address = built_len;
+    put_header("##CC", READ + (b.ranged ? 16 : 0) + b.excess, 4 + COUNT_OF(some_refs));
+    put_at(address + 4, b.reserved, 4);
     put(b.name, 8);
     put(b.unit, 8);
     put(b.comment, 8);
@@ -834,11 +853,23 @@ static void build_all_fields(void) {
     put(b.flags, 2);
     put(b.ref_count, 2);
     put(COUNT_OF(some_words), 2);
-    put(b.min_word, 8);
-    put(bits(b.range_max), 8);
+    if (b.ranged) put(b.min_word, 8);
+    if (b.ranged) put(bits(b.range_max), 8);
     for (size_t i = 0; i < COUNT_OF(some_words); i++) put(some_words[i], 8);
+    for (uint64_t i = 0; i < b.excess; i++) put(0, 1);
+    return address;
 }
 
+/* The block alone, from byte 0 on. */
+static void build_block(mdf_block b) {
+    begin();
+    built_len = 0;
+    put_block(b);
+}
+
+static void build_all_fields(void) { build_block(all_fields()); }
+
+/* With some_refs and some_words. What was built is what is to be written. */
 static void writes(const char *name, mdf_block b, size_t room, uint32_t refusal) {
     uint8_t *out = lent_out(room);
     mdf_written w = mdf_write(b, some_refs, COUNT_OF(some_refs), some_words, COUNT_OF(some_words), out, room);
@@ -854,18 +885,37 @@ static void writes_with_ranged(const char *name, uint8_t ranged) {
     writes(name, b, built_len, 0);
 }
 
-/* Parsing what was written returns every field, the two counts and the block length as written. */
-static void parses_what_was_written(void) {
-    mdf_block wanted = all_fields();
-    wanted.length = built_len;
-    wanted.links = 7;
-    wanted.val_count = 2;
-    wanted.max_word = bits(wanted.range_max);
-    uint8_t *image = lent_image();
-    mdf_parsed parsed = mdf_parse(image, built_len, 0);
-    expect(parsed.refusal == 0 && parsed.address == 0 && same_block(parsed.block, wanted), "parse what was written");
-    give_back_image(image, "parse what was written");
-    writes("write what was parsed", parsed.block, built_len, 0);
+/* What parsing such a block answers: every field, the two counts and the block length as written. The padding with them, where it is kept. */
+static mdf_block as_written(mdf_block b) {
+    b.length = READ + (b.ranged ? 16 : 0) + b.excess;
+    b.links = 7;
+    b.val_count = 2;
+    b.max_word = bits(b.range_max);
+    if (!b.ranged) b.range_min = b.range_max = 0;
+    if (!b.ranged) b.min_word = b.max_word = 0;
+    return b;
+}
+
+/* Parsed with its padding to this block, and without it to the same without. */
+static void parses_to(const char *name, uint64_t address, mdf_block wanted) {
+    mdf_parsed kept = {.block = wanted}, plain = kept;
+    plain.block.reserved = 0;
+    plain.block.excess = 0;
+    parses(name, mdf_parse_kept, address, kept);
+    parses(name, mdf_parse, address, plain);
+}
+
+/* Writes what was parsed with its padding, with the references and the words that are read by place: the block's bytes come back. */
+static void comes_back(const char *name, uint64_t address, size_t length) {
+    uint64_t refs[COUNT_OF(some_refs)], words[COUNT_OF(some_words)];
+    uint8_t *image = lent_image(), *out = lent_out(length);
+    mdf_parsed p = mdf_parse_kept(image, built_len, address);
+    for (size_t i = 0; i < COUNT_OF(refs); i++) refs[i] = mdf_reference(image, built_len, address, i).word;
+    for (size_t i = 0; i < COUNT_OF(words); i++) words[i] = mdf_value_word(image, built_len, address, i).word;
+    mdf_written w = mdf_write(p.block, refs, COUNT_OF(refs), words, COUNT_OF(words), out, length);
+    expect(p.refusal == 0 && w.refusal == 0 && w.length == length && holds(out, length, built + address, length), name);
+    give_back_image(image, name);
+    give_back_out(out);
 }
 
 static void write_cases(void) {
@@ -877,7 +927,8 @@ static void write_cases(void) {
     writes_with_ranged("write: ranged 2 counts as 1", 2);
     writes_with_ranged("write: ranged 128 counts as 1", 128);
     writes_with_ranged("write: ranged 255 counts as 1", 255);
-    parses_what_was_written();
+    parses_to("parse what was written", 0, as_written(all_fields()));
+    comes_back("write what was parsed", 0, built_len);
 }
 
 /* No references, no values and no range: 64 bytes, with empty slices. */
@@ -892,24 +943,36 @@ static void write_smallest(void) {
     give_back_out(out);
 }
 
-static void writes_so_many(const char *name, size_t values, size_t room, uint32_t refusal) {
-    static const mdf_block b;
-    uint64_t nothing = 0, *words = taken(8 * values);
-    uint8_t *out = lent_out(room);
-    memset(words, 0, 8 * values);
+static void *zeros(size_t bytes) {
+    return memset(taken(bytes), 0, bytes);
+}
+
+/* Writes so many values, each of them 0, in a block of which only padding and range are given, this one of zeros too. */
+static void writes_so_many(const char *name, mdf_block b, size_t values, size_t room, uint32_t refusal) {
+    size_t length = refusal ? 0 : 64 + (b.ranged ? 16 : 0) + 8 * values + b.excess;
+    uint64_t nothing = 0, *words = zeros(8 * values);
+    uint8_t *out = lent_out(room), *wanted = zeros(length);
+    if (!refusal) {
+        begin();
+        built_len = 0;
+        put_header("##CC", length, 4);
+        put_at(4, b.reserved, 4);
+        put_at(62, values, 2);
+        memcpy(wanted, built, 64);
+    }
     mdf_written w = mdf_write(b, &nothing, 0, words, values, out, room);
-    bool counted = refusal || (out[62] == 0xff && out[63] == 0xff);
-    expect(w.refusal == refusal && w.length == (refusal ? 0 : 64 + 8 * values) && counted, name);
-    if (refusal) expect(holds(out, room, "", 0), name);
+    expect(w.refusal == refusal && w.length == length && holds(out, room, wanted, length), name);
+    free(wanted);
     free(words);
     give_back_out(out);
 }
 
 static void write_counts(void) {
-    writes_so_many("write 65,535 values", 65535, 64 + 8 * 65535, 0);
-    writes_so_many("write 65,536 values: 9 Count", 65536, 64 + 8 * 65536, MDF_REFUSED_COUNT);
-    writes_so_many("9 before 8", 65536, 0, MDF_REFUSED_COUNT);
-    writes_so_many("write 65,535 values: 8 Room", 65535, 64 + 8 * 65535 - 1, MDF_REFUSED_ROOM);
+    static const mdf_block b;
+    writes_so_many("write 65,535 values", b, 65535, 64 + 8 * 65535, 0);
+    writes_so_many("write 65,536 values: 9 Count", b, 65536, 64 + 8 * 65536, MDF_REFUSED_COUNT);
+    writes_so_many("9 before 8", b, 65536, 0, MDF_REFUSED_COUNT);
+    writes_so_many("write 65,535 values: 8 Room", b, 65535, 64 + 8 * 65535 - 1, MDF_REFUSED_ROOM);
 }
 
 /* ---- reading by place ---- */
@@ -987,10 +1050,7 @@ static void place_cases(void) {
 
 /* Sets the link count in a block's header, and nothing else. */
 static void set_links(uint64_t address, uint64_t links) {
-    size_t end = built_len;
-    built_len = address + 16;
-    put(links, 8);
-    built_len = end;
+    put_at(address + 16, links, 8);
 }
 
 /* Refused by what reads the block alone, and by what checks it first: the type 10 entry then shows the question. */
@@ -1205,6 +1265,263 @@ static void few_links_order_cases(void) {
     is_unsound("a link to itself, 3 links: 18, and no reference is looked at", own, LIMIT, MDF_REFUSED_FEW_LINKS, own);
 }
 
+/* ---- request [6]: the padding kept ---- */
+
+static const uint64_t excesses[] = {0, 1, 7, 8, 15, 16, 17, 4096};
+static const uint32_t reserved_bytes[] = {0, 1, 0x04030201, 0x80000000, 0xffffffff};
+
+#define ENOUGH 16 /* bytes of excess that are read as a range, where there is none */
+
+static mdf_block padded(uint32_t reserved, uint64_t excess, uint8_t ranged) {
+    mdf_block b = all_fields();
+    b.reserved = reserved;
+    b.excess = excess;
+    b.ranged = ranged;
+    return b;
+}
+
+/* Asks of each block that can be padded: with and without a range, with each excess and with some reserved bytes. */
+static void each_padded(void (*ask)(mdf_block)) {
+    for (size_t i = 0; i < COUNT_OF(excesses); i++) {
+        for (size_t k = 0; k < COUNT_OF(reserved_bytes); k++) {
+            ask(padded(reserved_bytes[k], excesses[i], 1));
+            if (excesses[i] < ENOUGH) ask(padded(reserved_bytes[k], excesses[i], 0));
+        }
+    }
+}
+
+/* Written with room enough and refused without, and parsed back to every field. */
+static void is_written_and_parsed(mdf_block b) {
+    build_block(b);
+    writes("padding: just enough room", b, built_len, 0);
+    writes("padding: room to spare", b, built_len + 40, 0);
+    writes("padding: 8 Room, one byte short", b, built_len - 1, MDF_REFUSED_ROOM);
+    if (b.excess) writes("padding: 8 Room, room for all but the excess", b, built_len - b.excess, MDF_REFUSED_ROOM);
+    writes("padding: 8 Room, no room", b, 0, MDF_REFUSED_ROOM);
+    parses_to("padding: parse what was written", 0, as_written(b));
+    comes_back("padding: write what was parsed", 0, built_len);
+    reads_all("padding: by place", 0);
+}
+
+/* Between other bytes, at an odd address. */
+static void is_parsed_between(mdf_block b) {
+    begin();
+    text("before");
+    built_len += 3;
+    uint64_t address = put_block(b);
+    size_t length = built_len - address;
+    for (int i = 0; i < 24; i++) put(0xff, 1);
+    parses_to("padding: between other bytes", address, as_written(b));
+    comes_back("padding: between other bytes, written again", address, length);
+    reads_all("padding: between other bytes, by place", address);
+}
+
+/* The image ends inside the excess: that matters to the mode that keeps it, and to no other call. */
+static void ends_inside_excess(mdf_block b) {
+    begin();
+    uint64_t address = put_block(b);
+    size_t end = built_len, read = end - b.excess;
+    mdf_parsed plain = {.block = as_written(b)}, refused = {.refusal = MDF_REFUSED_SHORT, .address = address};
+    plain.block.reserved = 0;
+    plain.block.excess = 0;
+    parses_to("excess up to the image end", address, as_written(b));
+    for (size_t cut = 1; cut <= b.excess; cut += cut < 20 ? 1 : 97) {
+        built_len = end - cut;
+        parses("4 Short: the excess passes the image end", mdf_parse_kept, address, refused);
+        parses("the excess passes the image end, without the padding", mdf_parse, address, plain);
+        is_accepted("the excess passes the image end: the check", address, LIMIT, 1);
+    }
+    built_len = read;
+    reads_all("the excess passes the image end: by place", address);
+    built_len = read - 1;
+    parse_is_refused("4 Short: the image ends inside the last value", address, MDF_REFUSED_SHORT);
+}
+
+/* What the excess bytes hold is not looked at, and is not kept: they are written as zeros. */
+static void excess_is_not_zero(mdf_block b) {
+    static const uint8_t fills[] = {1, 0x80, 0xff};
+    for (size_t i = 0; i < COUNT_OF(fills); i++) {
+        build_block(b);
+        memset(built + built_len - b.excess, fills[i], b.excess);
+        parses_to("excess bytes that are not zero", 0, as_written(b));
+        memset(built + built_len - b.excess, 0, b.excess);
+        writes("excess bytes that were not zero, written as zeros", as_written(b), built_len, 0);
+    }
+}
+
+/* With room for it or without, 16 bytes or more without a range are refused. Any number but 0 says that there is one. */
+static void padding_refusals(void) {
+    static const uint8_t ranged[] = {2, 128, 255};
+    for (size_t i = 0; i < COUNT_OF(excesses); i++) {
+        if (excesses[i] < ENOUGH) continue;
+        mdf_block b = padded(0xffffffff, excesses[i], 0);
+        const size_t rooms[] = {0, READ - 1, READ, READ + 16, READ + excesses[i] - 1, READ + excesses[i], READ + excesses[i] + 17};
+        for (size_t k = 0; k < COUNT_OF(rooms); k++) writes("23 Padding: no range", b, rooms[k], MDF_REFUSED_PADDING);
+        build_block(padded(0xffffffff, excesses[i], 1));
+        for (size_t k = 0; k < COUNT_OF(ranged); k++) {
+            b.ranged = ranged[k];
+            writes("padding: any number but 0 is a range", b, built_len, 0);
+            writes("padding: any number but 0 is a range, 8 Room", b, built_len - 1, MDF_REFUSED_ROOM);
+        }
+    }
+}
+
+/* Of a block without a range that had 16 bytes of excess or more the first two values are read as a range, and the excess as values. */
+static void excess_read_as_range(void) {
+    for (uint64_t more = 0; more < 20; more++) {
+        build_block(padded(0x04030201, ENOUGH + more, 0));
+        mdf_block wanted = as_written(padded(0x04030201, more, 1));
+        wanted.min_word = some_words[0]; /* a NaN, as the range of all_fields has */
+        wanted.max_word = some_words[1];
+        wanted.range_max = 0.5;
+        parses_to("16 bytes of excess are a range", 0, wanted);
+        finds("16 bytes of excess are a range: the values behind it", mdf_value_word, 0, 0, 0);
+        finds("16 bytes of excess are a range: the last value", mdf_value_word, 0, 1, 0);
+        comes_back("16 bytes of excess are a range: written again", 0, built_len);
+    }
+}
+
+/* A block length below the bytes read leaves no excess. The reserved bytes are kept, and the length becomes that of what is written. */
+static void small_lengths(void) {
+    static const uint64_t lengths[] = {0, 1, 23, 24, 63, 64, READ - 16, READ - 1};
+    for (size_t i = 0; i < COUNT_OF(lengths); i++) {
+        for (size_t k = 0; k < COUNT_OF(reserved_bytes); k++) {
+            mdf_block b = padded(reserved_bytes[k], 0, 0), wanted = as_written(b);
+            build_block(b);
+            wanted.length = lengths[i];
+            put_at(8, lengths[i], 8);
+            parses_to("a block length below the bytes read", 0, wanted);
+            put_at(8, READ, 8);
+            writes("a block length below the bytes read, written again", wanted, built_len, 0);
+        }
+    }
+}
+
+/* No sum of address, bytes read and excess may wrap: 2^64 - address leads back to byte 0, and a little more into the block. */
+static void huge_lengths(void) {
+    static const uint64_t places[] = {0, 1, 64, 4099};
+    for (size_t i = 0; i < COUNT_OF(places); i++) {
+        begin();
+        built_len = places[i];
+        mdf_block b = padded(0x04030201, 0, 1);
+        uint64_t address = put_block(b), back = 0 - address, top = UINT64_C(1) << 63;
+        const uint64_t lengths[] = {UINT64_MAX, UINT64_MAX - 7, UINT64_MAX - READ, back - (address == 0), back - 1, back - READ, top, top - 1,
+                                    top - address, (UINT64_C(1) << 32) + READ + 16, (UINT64_C(1) << 32) - address, READ + 17};
+        mdf_parsed plain = {.block = as_written(b)}, refused = {.refusal = MDF_REFUSED_SHORT, .address = address};
+        plain.block.reserved = 0;
+        for (size_t k = 0; k < COUNT_OF(lengths); k++) {
+            plain.block.length = lengths[k];
+            put_at(address + 8, lengths[k], 8);
+            parses("4 Short: a huge excess", mdf_parse_kept, address, refused);
+            parses("a huge block length, without the padding", mdf_parse, address, plain);
+        }
+    }
+}
+
+/* Nor may a sum of what is to be written: 2^64 less what the block has gives 0, and a little more what fits. */
+static void huge_excesses(void) {
+    static const uint64_t top = UINT64_C(1) << 63, half = UINT64_C(1) << 32, all = UINT64_MAX;
+    const uint64_t huge[] = {all, all - 7, all - 15, all - 16, all - 63, 0 - READ, 1 - READ, 0 - READ - 16, 1 - READ - 16, all / 8,
+                             top, top - 1, top - READ, top + 120, half, half + 15, half - READ - 16, (half << 8) + 1};
+    static const size_t rooms[] = {0, 1, 15, 16, 64, READ - 1, READ, READ + 15, READ + 16, READ + 17, READ + 32, 4096};
+    for (size_t i = 0; i < COUNT_OF(huge); i++) {
+        for (size_t k = 0; k < COUNT_OF(rooms); k++) {
+            writes("a huge excess: 8 Room", padded(1, huge[i], 1), rooms[k], MDF_REFUSED_ROOM);
+            writes("a huge excess and no range: 23 before 8", padded(1, huge[i], 0), rooms[k], MDF_REFUSED_PADDING);
+        }
+        writes_so_many("a huge excess: 9 before 23 and 8", padded(1, huge[i], 0), 65536, 64, MDF_REFUSED_COUNT);
+        writes_so_many("a huge excess and a range: 9 before 8", padded(1, huge[i], 1), 65536, 64, MDF_REFUSED_COUNT);
+    }
+}
+
+/* The most values, and one more. */
+static void padding_and_counts(void) {
+    const size_t most = 64 + 8 * 65535;
+    const mdf_block below = {.excess = 15, .reserved = 0xffffffff}, enough = {.excess = ENOUGH}, ranged = {.excess = 100000, .ranged = 1};
+    writes_so_many("65,535 values and 15 bytes", below, 65535, most + 15, 0);
+    writes_so_many("65,535 values and 15 bytes: 8 Room", below, 65535, most + 14, MDF_REFUSED_ROOM);
+    writes_so_many("65,535 values and 16 bytes: 23 Padding", enough, 65535, most + 16, MDF_REFUSED_PADDING);
+    writes_so_many("65,535 values and 16 bytes, no room: 23 before 8", enough, 65535, 0, MDF_REFUSED_PADDING);
+    writes_so_many("65,536 values and 15 bytes: 9 Count", below, 65536, most + 40, MDF_REFUSED_COUNT);
+    writes_so_many("65,536 values and 16 bytes: 9 before 23", enough, 65536, most + 40, MDF_REFUSED_COUNT);
+    writes_so_many("65,536 values and 16 bytes, no room: 9 before 23 and 8", enough, 65536, 0, MDF_REFUSED_COUNT);
+    writes_so_many("65,535 values, a range and 100,000 bytes", ranged, 65535, most + 16 + 100000, 0);
+    writes_so_many("65,535 values, a range and 100,000 bytes, room to spare", ranged, 65535, most + 16 + 100040, 0);
+    writes_so_many("65,535 values, a range and 100,000 bytes: 8 Room", ranged, 65535, most + 16 + 99999, MDF_REFUSED_ROOM);
+    writes_so_many("65,536 values, a range and 100,000 bytes: 9 Count", ranged, 65536, most + 16 + 100040, MDF_REFUSED_COUNT);
+}
+
+/* What mdf_parse refuses is refused alike, whatever the excess would be. */
+static void kept_refusals(void) {
+    static const uint64_t lengths[] = {0, READ + 16, READ + 24, UINT64_MAX};
+    for (size_t i = 0; i < COUNT_OF(lengths); i++) {
+        build_block(padded(0xffffffff, 8, 1));
+        put_at(8, lengths[i], 8);
+        for (uint64_t links = 0; links < FEWEST; links++) {
+            set_links(0, links);
+            parse_is_refused("kept: 18 FewLinks", 0, MDF_REFUSED_FEW_LINKS);
+        }
+        set_links(0, UINT64_MAX);
+        parse_is_refused("kept: 4 Short, a link count that no image holds", 0, MDF_REFUSED_SHORT);
+        put_at(2, 'D', 1);
+        parse_is_refused("kept: 2 NotConversion", 0, MDF_REFUSED_NOT_CONVERSION);
+        for (uint64_t near = 0; near < 24; near++) {
+            parse_is_refused("kept: 1 Outside, near the image end", built_len - near, MDF_REFUSED_OUTSIDE);
+            parse_is_refused("kept: 1 Outside, the largest addresses", UINT64_MAX - near, MDF_REFUSED_OUTSIDE);
+            parse_is_refused("kept: 1 Outside, the middle of all addresses", (UINT64_C(1) << 63) - near, MDF_REFUSED_OUTSIDE);
+        }
+    }
+    built_len = 0;
+    parse_is_refused("kept: 1 Outside, an empty image", 0, MDF_REFUSED_OUTSIDE);
+}
+
+/* Every word of range and values keeps its bits, NaNs too, in a block of every type. */
+static void padding_round_trips(void) {
+    static const uint64_t words[] = {0x7ff0000000000001, 0x7ff8000000000000, 0x7fffffffffffffff, 0xfff0000000000001, 0xfff8000000000123, UINT64_MAX,
+                                     0x7ff0000000000000, 0xfff0000000000000, 0x8000000000000000, 1, 0x0102030405060708};
+    for (size_t i = 0; i < COUNT_OF(words); i++) {
+        for (uint8_t kind = 0; kind <= 12; kind++) {
+            uint8_t ranged = kind % 2;
+            build_block(padded(0x80018001, ranged ? 24 : 8, ranged));
+            put_at(READ - 24, kind, 1);
+            for (size_t k = 0; k < COUNT_OF(some_words) + 2 * (size_t)ranged; k++) put_at(READ - 16 + 8 * k, words[(i + k) % COUNT_OF(words)], 8);
+            comes_back("a padded block of every type, with every word", 0, built_len);
+        }
+    }
+}
+
+/* What applies the block does not look at its padding. */
+static void padding_is_not_applied(void) {
+    for (uint64_t excess = 1; excess < ENOUGH; excess++) {
+        const uint64_t words[] = {bits(0), bits(0.125)};
+        plan linear = {.kind = 1, .words = words, .word_count = 2, .length = 80 + excess};
+        begin();
+        uint64_t address = block(linear);
+        put_at(address + 4, 0xffffffff, 4);
+        mdf_parsed refused = {.refusal = MDF_REFUSED_SHORT, .address = address};
+        parses("applied: the excess passes the image end", mdf_parse_kept, address, refused);
+        gives_number("applied: the excess passes the image end", address, of_signed(-3), -0.375);
+        built_len += excess;
+        gives_number("applied: the excess lies in the image", address, of_signed(-3), -0.375);
+    }
+}
+
+static void padding_cases(void) {
+    each_padded(is_written_and_parsed);
+    each_padded(is_parsed_between);
+    each_padded(ends_inside_excess);
+    each_padded(excess_is_not_zero);
+    padding_refusals();
+    excess_read_as_range();
+    small_lengths();
+    huge_lengths();
+    huge_excesses();
+    padding_and_counts();
+    kept_refusals();
+    padding_round_trips();
+    padding_is_not_applied();
+}
+
 int main(void) {
     linear_cases();
     rounding_cases();
@@ -1245,6 +1562,7 @@ int main(void) {
     few_links_short_cases();
     few_links_elsewhere_cases();
     few_links_order_cases();
+    padding_cases();
     printf("C face: %d cases passed, %d failed\n", passed, failed);
     return failed ? 1 : 0;
 }

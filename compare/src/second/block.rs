@@ -6,6 +6,8 @@ use std::hint::black_box;
 
 /// A whole ##CC block, everything read out of the image; floats as their 64 bits.
 pub struct Found {
+    /// The four bytes behind the id.
+    pub reserved: u32,
     pub length: u64,
     pub links: u64,
     pub fixed: [u64; 4],
@@ -73,6 +75,7 @@ impl Second {
         let words = |from: usize, n: usize| (0..n).map(|i| word(image, from + 8 * i)).collect::<Vec<u64>>();
         let fixed = |i: usize| word(image, a + 24 + 8 * i);
         let mut found = Found {
+            reserved: u32::from_le_bytes(image[a + 4..a + 8].try_into().unwrap()),
             length,
             links,
             fixed: [fixed(0), fixed(1), fixed(2), fixed(3)],
@@ -146,16 +149,22 @@ impl Second {
         black_box(image[from..end].iter().position(|&b| b == 0));
     }
 
-    /// The bytes that the writer writes.
+    /// The bytes that the writer writes before the excess, which the block length counts.
     pub fn bytes_of(&self, block: &Block, refs: &[u64], words: &[u64]) -> Vec<u8> {
         let ranged = block.ranged || self.is(Wrong::WrittenRangeAlways);
         let links = 4 + refs.len() as u64;
         let in_length = ranged && !self.is(Wrong::WrittenLengthWithoutRange);
-        let length = 24 + 8 * links + 8 + 16 * in_length as u64 + 8 * words.len() as u64;
+        let excess = if self.is(Wrong::WrittenLengthWithoutExcess) { 0 } else { block.excess };
+        let length = (24 + 8 * links + 8 + 16 * in_length as u64 + 8 * words.len() as u64).wrapping_add(excess);
         let links = if self.is(Wrong::WrittenLinksFromRecord) { block.links } else { links };
         let ref_count = if self.is(Wrong::WrittenReferenceCount) { refs.len() as u16 } else { block.ref_count };
         let val_count = if self.is(Wrong::WrittenValueCount) { block.val_count } else { words.len() as u16 };
-        let mut bytes = b"##CC\0\0\0\0".to_vec();
+        let reserved = match self.wrong {
+            Wrong::WrittenReservedZero => [0; 4],
+            Wrong::WrittenReservedSwapped => block.reserved.to_be_bytes(),
+            _ => block.reserved.to_le_bytes(),
+        };
+        let mut bytes = [*b"##CC", reserved].concat();
         let unit = if self.is(Wrong::WrittenUnitIsName) { block.name } else { block.unit };
         let fixed = [length, links, block.name, unit, block.comment, block.inverse];
         fixed.iter().chain(refs).for_each(|w| bytes.extend(w.to_le_bytes()));
@@ -175,7 +184,7 @@ impl Second {
 }
 
 /// A bound's own bits; for a NaN the kept word if that spells one.
-fn bound(float: f64, kept: u64) -> u64 {
+pub fn bound(float: f64, kept: u64) -> u64 {
     match (float.is_nan(), spells_nan(kept)) {
         (false, _) => float.to_bits(),
         (true, true) => kept,
@@ -184,6 +193,7 @@ fn bound(float: f64, kept: u64) -> u64 {
 }
 
 impl Found {
+    /// The fields, without the padding.
     pub fn record(&self) -> Block {
         let (min_word, max_word) = self.range.unwrap_or((0, 0));
         let [name, unit, comment, inverse] = self.fixed;
@@ -198,6 +208,8 @@ impl Found {
             range_max: f64::from_bits(max_word),
             min_word,
             max_word,
+            excess: 0,
+            reserved: 0,
             flags: self.flags,
             ref_count: self.ref_count,
             val_count: self.val_count,

@@ -26,6 +26,6 @@ module _ (img : List ℕ) (at : ℕ) (head : Header) (place : ℕ) (fields : Fie
 
   pub joined-is : (fixed : Fixed) (range : Range) (refs values : ℕ) → fixed ≡ fixedAt img (at + 24)
       → range ≡ rangeAt img (place + 8) ranged → refs ≡ at + 56 → values ≡ valuesPlace img at
-      → recordFrom (head .length) (head .links) fixed fields range refs values ≡ blockAt img at
+      → recordFrom (head .length) (head .links) fixed fields range refs values 0 0 ≡ blockAt img at
   unfolding headerAt fieldsAt valCount isRanged blockAt
   joined-is fixed range refs values x g s v = rw (v, s, g, x, r, f, p, h)

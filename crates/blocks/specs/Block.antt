@@ -72,9 +72,9 @@ valuesPlace img a = fieldsPlace img a + 8 + rangeSize (isRanged img a)
 unfoldable pub blockEnd : List ℕ → ℕ → ℕ
 blockEnd img a = valuesPlace img a + 8 * valCount img a
 
--- the record of these parts
-abbrev pub recordFrom : ℕ → ℕ → Fixed → Fields → Range → ℕ → ℕ → Block
-recordFrom length links fixed fields range refs values =
+-- the record of these parts; the last two are the padding: reserved bytes and excess
+abbrev pub recordFrom : ℕ → ℕ → Fixed → Fields → Range → ℕ → ℕ → ℕ → ℕ → Block
+recordFrom length links fixed fields range refs values reserved excess =
     record {
       length = length;
       links = links;
@@ -94,8 +94,11 @@ recordFrom length links fixed fields range refs values =
       maxword = range .maxword;
       firstref = refs;
       firstval = values;
+      reserved = reserved;
+      excess = excess;
     }
 
+-- the padding is not kept here: parsing that keeps it has a definition of its own
 unfoldable pub blockAt : List ℕ → ℕ → Block
 blockAt img a =
     recordFrom
@@ -106,6 +109,8 @@ blockAt img a =
     (rangeAt img (fieldsPlace img a + 8) (isRanged img a))
     (a + 56)
     (valuesPlace img a)
+    0
+    0
 
 -- a ##CC block whose header lies in the image, whatever its link count: whole, or Short where the image ends inside it. Sums are exact, so a huge
 -- link count is Short

@@ -21,7 +21,7 @@ abbrev pub rangeOf : Block → Range
 rangeOf b =
     record { ranged = b .ranged; minimum = b .minimum; maximum = b .maximum; minword = b .minword; maxword = b .maxword }
 
--- a block of a type with four NIL links, no reference, no value and no range is 64 bytes long
+-- a block of a type with four NIL links, no reference, no value, no range and no padding is 64 bytes long
 abbrev pub emptyOf : ℕ → Block
 emptyOf kind =
     recordFrom 64 4
@@ -30,6 +30,8 @@ emptyOf kind =
     noRange
     56
     64
+    0
+    0
 
 -- the same block but for the fixed links
 abbrev pub withLinks : Block → ℕ → ℕ → ℕ → ℕ → Block
@@ -42,6 +44,8 @@ withLinks b name unit comment inverse =
     (rangeOf b)
     (b .firstref)
     (b .firstval)
+    (b .reserved)
+    (b .excess)
 
 -- the same block but for precision, flags and the reference count field
 abbrev pub withDetails : Block → ℕ → ℕ → ℕ → Block
@@ -54,6 +58,8 @@ withDetails b precision flags refcount =
     (rangeOf b)
     (b .firstref)
     (b .firstval)
+    (b .reserved)
+    (b .excess)
 
 -- the same block but for its range
 abbrev pub withRange : Block → Float → Float → Block
@@ -66,3 +72,11 @@ withRange b minimum maximum =
     (record { ranged = true; minimum = minimum; maximum = maximum; minword = toBits binary64 minimum; maxword = toBits binary64 maximum })
     (b .firstref)
     (b .firstval)
+    (b .reserved)
+    (b .excess)
+
+-- the same block but for its padding (request [6]: "The parsed record also holds the reserved four bytes and how far block length exceeds what was
+-- read")
+abbrev pub withPadding : Block → ℕ → ℕ → Block
+withPadding b reserved excess =
+    recordFrom (b .length) (b .links) (fixedOf b) (fieldsOf b) (rangeOf b) (b .firstref) (b .firstval) reserved excess

@@ -15,7 +15,7 @@ ghost use lib.ListN as ListN;
 ghost use Rattle.blocks.specs.Block.{fixedAt, fieldsAt, rangeAt, rangeSize, hasRange, blockAt, opened, parsedForRepair, fewLinks, retired, parsed};
 ghost use Rattle.blocks.specs.View.{seen};
 ghost use Rattle.blocks.specs.declared.view.Seen.the-variants.{Open};
-ghost use Rattle.blocks.specs.Make.{emptyOf, withLinks, withDetails, withRange};
+ghost use Rattle.blocks.specs.Make.{emptyOf, withLinks, withDetails, withRange, withPadding};
 ghost use Rattle.blocks.specs.Place.{referenceOf, valueWordOf, valueOf};
 
 pub struct Block {
@@ -42,6 +42,9 @@ pub struct Block {
     // The places of the first reference and of the first value.
     pub firstref: u64,
     pub firstval: u64,
+    // The four bytes behind the id, and how far the block length exceeds what was read; 0 where parsing does not keep them.
+    pub reserved: u32,
+    pub excess: u64,
 }
 
 pub enum Parsed {
@@ -172,7 +175,7 @@ impl Block {
     // The deepest block that is walked, with the root at depth 0.
     pub const DEPTH: u32 = 20;
 
-    // A block of a type with nothing in it: no text, no reference, no value, no range.
+    // A block of a type with nothing in it: no text, no reference, no value, no range, no padding.
     pub fn new(kind: u8) -> Block
         ensures { λ r. ⌜ r ≡ emptyOf kind ⌝ }
     {
@@ -195,6 +198,8 @@ impl Block {
             maxword: 0,
             firstref: 56,
             firstval: 64,
+            reserved: 0,
+            excess: 0,
         }
     }
 
@@ -231,6 +236,15 @@ impl Block {
         self
     }
 
+    // The block with these reserved bytes, and with so many zero bytes behind its values.
+    pub fn with_padding(mut self, reserved: u32, excess: u64) -> Block
+        ensures { λ r. ⌜ r ≡ withPadding self reserved excess ⌝ }
+    {
+        self.reserved = reserved;
+        self.excess = excess;
+        self
+    }
+
     // The record of a block that lies whole in the image, as it was seen.
     fn assembled(image: &[u8], at: usize, view: View) -> Block
         requires { ⌜ (at + 64 + 8 * view .refs ≤ ListN.length (now image)) × (seen (now image) at ≡ Open view) ⌝ }
@@ -261,6 +275,8 @@ impl Block {
             maxword: range.maxword,
             firstref: view.firstref,
             firstval: view.firstval,
+            reserved: 0,
+            excess: 0,
         }
     }
 

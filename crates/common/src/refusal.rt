@@ -3,7 +3,7 @@
 ghost use mathlib.Core.Path.{_≡_};
 ghost use Rattle.common.specs.Refusal.{numberOf, addressOf};
 
-// 1 to 6 and 18 carry the address of the block or the link.
+// 1 to 6 and 18 carry the address of the block or the link. They stand first, so that the machine tells them from the others by one comparison.
 pub enum Refusal {
     Outside(u64),
     NotConversion(u64),
@@ -11,12 +11,13 @@ pub enum Refusal {
     Short(u64),
     Deep(u64),
     Loop(u64),
+    FewLinks(u64),
     Formula,
     Room,
     Count,
     Width,
     Edition,
-    FewLinks(u64),
+    Padding,
 }
 
 // A number of 64 bits, where there is one.
@@ -37,12 +38,13 @@ impl Refusal {
             Refusal::Short(_) => 4,
             Refusal::Deep(_) => 5,
             Refusal::Loop(_) => 6,
+            Refusal::FewLinks(_) => 18,
             Refusal::Formula => 7,
             Refusal::Room => 8,
             Refusal::Count => 9,
             Refusal::Width => 11,
             Refusal::Edition => 16,
-            Refusal::FewLinks(_) => 18,
+            Refusal::Padding => 23,
         }
     }
 
@@ -57,12 +59,13 @@ impl Refusal {
             Refusal::Short(a) => Word::Bits(a),
             Refusal::Deep(a) => Word::Bits(a),
             Refusal::Loop(a) => Word::Bits(a),
+            Refusal::FewLinks(a) => Word::Bits(a),
             Refusal::Formula => Word::NoWord,
             Refusal::Room => Word::NoWord,
             Refusal::Count => Word::NoWord,
             Refusal::Width => Word::NoWord,
             Refusal::Edition => Word::NoWord,
-            Refusal::FewLinks(a) => Word::Bits(a),
+            Refusal::Padding => Word::NoWord,
         }
     }
 }

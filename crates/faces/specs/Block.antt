@@ -38,6 +38,8 @@ blockFace b =
       maximum = b .maximum;
       minword = b .minword;
       maxword = b .maxword;
+      excess = b .excess;
+      reserved = b .reserved;
       flags = b .flags;
       refcount = b .refcount;
       valcount = b .valcount;
@@ -68,6 +70,8 @@ recordOf b =
       maxword = b .maxword;
       firstref = 0;
       firstval = 0;
+      reserved = b .reserved;
+      excess = b .excess;
     }
 
 abbrev pub noBlock : MdfBlock
@@ -83,6 +87,8 @@ noBlock =
       maximum = ofBits binary64 0;
       minword = 0;
       maxword = 0;
+      excess = 0;
+      reserved = 0;
       flags = 0;
       refcount = 0;
       valcount = 0;

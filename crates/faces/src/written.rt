@@ -34,6 +34,8 @@ pub fn record_of(b: MdfBlock) -> Block
         maxword: b.maxword,
         firstref: 0,
         firstval: 0,
+        reserved: b.reserved,
+        excess: b.excess,
     }
 }
 

@@ -12,7 +12,7 @@ pub fn say(phrases: &[u8], k: usize) {
 }
 
 // The names of the refusals by their numbers.
-const NAMES: [u8; 380] = *b"00||................\
+const NAMES: [u8; 480] = *b"00||................\
     01| Outside|........\
     02| NotConversion|..\
     03| Limit|..........\
@@ -30,7 +30,12 @@ const NAMES: [u8; 380] = *b"00||................\
     15||................\
     16| Edition|........\
     17||................\
-    18| FewLinks|.......";
+    18| FewLinks|.......\
+    19||................\
+    20||................\
+    21||................\
+    22||................\
+    23| Padding|........";
 
 pub fn name(number: usize) {
     say(&NAMES, number);

@@ -24,13 +24,14 @@ use Rattle.blocks.specs.declared.Parsed.{Parsed}
 use Rattle.blocks.specs.declared.Parsed.the-variants.{Whole, Refused}
 use Rattle.blocks.proofs.Opening.{read-whole, read-parses}
 use Rattle.blocks.proofs.Places.{by-place}
-use Rattle.writer.specs.Write.{writeSize, blockBytes}
+use Rattle.writer.specs.Write.{writeSize, blockBytes, readAsRange}
 use Rattle.writer.specs.Stored.{storedRange, stored, Sized}
 use Rattle.writer.proofs.Writing.{length-block}
+use Rattle.writer.proofs.Plain.{no-excess}
 use Rattle.writer.proofs.ParseWritten.{parse-written, references-written, values-written}
 use Rattle.writer.proofs.WriteParsed.{same-bytes}
 use Rattle.repair.specs.Repair.{repaired, withFourLinks}
-use Rattle.repair.proofs.Reading.{references-fit, values-fit, too-long, fitting}
+use Rattle.repair.proofs.Reading.{references-fit, values-fit, no-padding, too-long, fitting}
 
 -- ---- what was read has the size of its type
 module _ (img : List ℕ) (h : Bytes img) where
@@ -58,6 +59,7 @@ module _ (img : List ℕ) (h : Bytes img) where
         maximum = range .1;
         minword = range .2;
         maxword = range .3;
+        reserved = (omega arith);
       }
 
   -- a range that was read is stored as it is, a NaN's words too
@@ -99,17 +101,20 @@ module _ (input : List ℕ) (b : Block) (most : length input ≤ 30000) (whole :
       let links : b .links ≡ word64 input 16 = ap (λ (x : Block). x .links) same in
       omega (arith, first, links, ranged-is)
 
-  size-is : writeSize (b .ranged) (b .links - 4) (b .valcount) ≡ blockEnd input 0
+  bare : (b .reserved ≡ 0) × (b .excess ≡ 0)
+  bare = no-padding input 0 b whole
+
+  size-is : writeSize (b .ranged) (b .links - 4) (b .valcount) (b .excess) ≡ blockEnd input 0
   unfolding writeSize blockAt blockEnd valCount fieldsAt
   size-is =
       let first : b .firstval ≡ valuesPlace input 0 = ap (λ (x : Block). x .firstval) same in
       let values : b .valcount ≡ valCount input 0 = ap (λ (x : Block). x .valcount) same in
-      omega (arith, firstval-is, first, values)
+      omega (arith, firstval-is, first, values, bare .1)
 
   is-block : repaired input ≡ blockBytes b (references input b) (valueWords input b)
   is-block = fitting input most (Whole b) whole
 
-  fits-input : writeSize (b .ranged) (length (references input b)) (length (valueWords input b)) ≤ length input
+  fits-input : writeSize (b .ranged) (length (references input b)) (length (valueWords input b)) (b .excess) ≤ length input
   unfolding writeSize
   fits-input = omega (arith, refs-count, values-count, size-is, read-whole input 0 b whole .fits)
 
@@ -137,7 +142,10 @@ module _ (input : List ℕ) (b : Block) (most : length input ≤ 30000) (whole :
     stored-is =
         let range = range-kept input bytes b (fieldsPlace input 0 + 8) (isRanged input 0) (rw same refl) in
         let firstref : b .firstref ≡ 56 = ap (λ (x : Block). x .firstref) same in
-        cc (firstval-is)
+        cc (firstval-is, bare .1)
+
+    unread : readAsRange (b .ranged) (b .excess) ≡ false
+    unread = ap (readAsRange (b .ranged)) (bare .1) ∙ no-excess (b .ranged)
 
     sized : Sized b
     sized = rw same (read-sized input bytes 0)
@@ -152,7 +160,7 @@ module _ (input : List ℕ) (b : Block) (most : length input ≤ 30000) (whole :
     pub repaired-parses : (rest : List ℕ) → parsed (repaired input ++ rest) 0 ≡ Whole (withFourLinks b)
     repaired-parses rest =
         rw is-block
-        (parse-written [] rest b (references input b) (valueWords input b) sized few (omega (arith, fits-input)) ∙ ap Whole kept-is)
+        (parse-written [] rest b (references input b) (valueWords input b) sized few (omega (arith, fits-input)) unread ∙ ap Whole kept-is)
 
     -- what a way of reading by place finds there
     placed : (read : List ℕ → Block → ℕ → Word) (rest : List ℕ) (i : ℕ)

@@ -30,6 +30,13 @@ module _ (input : List ℕ) (a : ℕ) (b : Block) (whole : parsedForRepair input
   unfolding blockAt fieldsAt valCount blockEnd
   values-fit = let w = read-whole input a b whole in rw (w .same) (w .fits)
 
+  -- it has no padding
+  pub no-padding : (b .reserved ≡ 0) × (b .excess ≡ 0)
+  unfolding blockAt
+  no-padding =
+      let same = read-whole input a b whole .same in
+      (ap (λ (x : Block). x .reserved) same, ap (λ (x : Block). x .excess) same)
+
 -- a refusal is 1, 2 or 4
 pub refused-with : (input : List ℕ) (a : ℕ) (r : Refusal) → parsedForRepair input a ≡ Refused r
     → (numberOf r ≡ 1) ⊎ ((numberOf r ≡ 2) ⊎ (numberOf r ≡ 4))

@@ -38,14 +38,17 @@ unfoldable pub holding : List ℕ → List ℕ → WriteCall
 holding bytes out =
     cond (ltb (length out) (length bytes)) (writeCall (Unwritten Room) out) (writeCall (Bytes (length bytes)) (bytes ++ drop (length bytes) out))
 
--- the record that parsing gives for a repaired block: that of the block but for link count and block length
+-- the record that parsing gives for a repaired block: that of the block but for link count and block length, and without padding, which the repair does
+-- not keep
 abbrev pub withFourLinks : Block → Block
 withFourLinks b =
     recordFrom
-    (writeSize (b .ranged) (b .links - 4) (b .valcount))
+    (writeSize (b .ranged) (b .links - 4) (b .valcount) 0)
     (4 + (b .links - 4))
     (fixedOf b)
     (fieldsOf b)
     (rangeOf b)
     (b .firstref)
     (b .firstval)
+    0
+    0

@@ -5,10 +5,10 @@ use Prim.Native.Nat.{ℕ, zero, suc, _+_, _*_, _/_, _%_, _^_, _≤_, _<_}
 use native.Mathlib.Nat.{add-zero, add-assoc}
 use native.Mathlib.Numerals.{add-one}
 use native.Mathlib.Omega.{arith}
-use lib.ListN.{length, getD, drop, set, length-set, drop-of-length-le}
+use lib.ListN.{length, getD, drop, set, length-set, drop-of-length-le, length-replicate, replicate-append-replicate}
 use lib.Seq.{sets, sets-eq, getD-append-add, drop-cons}
 use lib.Ieee.{Float, binary64, toBits}
-use Rattle.words.specs.Words.{word16, word32, word64, words, bytes2, bytes4, bytes8, put, links}
+use Rattle.words.specs.Words.{word16, word32, word64, words, bytes2, bytes4, bytes8, put, links, zeros}
 
 -- ---- put
 -- first xs, then ys behind them
@@ -41,6 +41,34 @@ put-sets : (bs out : List ℕ) (at : ℕ) → put out at bs ≡ sets out at bs
 unfolding put
 put-sets [] out at = refl
 put-sets (b ∷ bs) out at = put-sets bs (set out at b) (at + 1) ∙ ap (λ (k : ℕ). sets (set out at b) k bs) (add-one at)
+
+-- a zero that stands there
+pub set-zero : (out : List ℕ) (i : ℕ) → getD out i 0 ≡ 0 → set out i 0 ≡ out
+set-zero [] i e = refl
+set-zero (x ∷ xs) zero e = ap (λ (y : ℕ). y ∷ xs) (sym e)
+set-zero (x ∷ xs) (suc i) e = ap (λ (ys : List ℕ). x ∷ ys) (set-zero xs i e)
+
+-- k zero bytes more
+pub zeros-more : (out : List ℕ) (at i k : ℕ) → put (put out at (zeros i)) (at + i) (zeros k) ≡ put out at (zeros (i + k))
+zeros-more out at i k =
+    ap (λ (n : ℕ). put (put out at (zeros i)) (at + n) (zeros k)) (sym (length-replicate i 0)) ∙ sym (put-append (zeros i) (zeros k) out at)
+    ∙ ap (put out at) (replicate-append-replicate i k 0)
+
+-- zeros that stand there: two of them, four, eight
+zero16 : (out : List ℕ) (at : ℕ) → word16 out at ≡ 0 → put out at (zeros 2) ≡ out
+unfolding word16 put
+zero16 out at e =
+    ap (λ (o : List ℕ). set o (at + 1) 0) (set-zero out at (omega (arith, e))) ∙ set-zero out (at + 1) (omega (arith, e))
+
+zero32 : (out : List ℕ) (at : ℕ) → word32 out at ≡ 0 → put out at (zeros 4) ≡ out
+unfolding word32
+zero32 out at e =
+    sym (zeros-more out at 2 2) ∙ ap (λ (o : List ℕ). put o (at + 2) (zeros 2)) (zero16 out at (omega (arith, e))) ∙ zero16 out (at + 2) (omega (arith, e))
+
+pub zero64 : (out : List ℕ) (at : ℕ) → word64 out at ≡ 0 → put out at (zeros 8) ≡ out
+unfolding word64
+zero64 out at e =
+    sym (zeros-more out at 4 4) ∙ ap (λ (o : List ℕ). put o (at + 4) (zeros 4)) (zero32 out at (omega (arith, e))) ∙ zero32 out (at + 4) (omega (arith, e))
 
 -- put from byte 0: the bytes, and behind them the list as it was
 pub put-front : (out bs : List ℕ) → length bs ≤ length out → put out 0 bs ≡ bs ++ drop (length bs) out

@@ -2,7 +2,7 @@
 -- one. Assumes nothing: these are definitions.
 use Prim.Native.Nat.{ℕ, zero, suc, _+_, _-_, _*_, _/_, _%_, _≤_}
 use mathlib.Core.List.{List, [], _∷_, _++_}
-use lib.ListN.{length, getD, set, take, drop}
+use lib.ListN.{length, getD, set, take, drop, replicate}
 use lib.Ieee.{Float, binary64, ofBits}
 
 -- the number that stands at a place: each is made of its two halves
@@ -38,6 +38,10 @@ bytes8 v = bytes4 (v % 4294967296) ++ bytes4 (v / 4294967296)
 unfoldable pub links : List ℕ → List ℕ
 links [] = []
 links (v ∷ vs) = bytes8 v ++ links vs
+
+-- so many zero bytes
+abbrev pub zeros : ℕ → List ℕ
+zeros n = replicate n 0
 
 -- the part of a list from a place up to another, and that it lies in the list
 abbrev pub part : List ℕ → ℕ → ℕ → List ℕ

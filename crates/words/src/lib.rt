@@ -6,9 +6,9 @@
 ghost use mathlib.Core.Path.{_≡_};
 ghost use mathlib.Core.List.{[], _∷_, map};
 ghost use Prim.Native.Nat.{_+_, _*_, _≤_, _<_};
-ghost use lib.ListN.{length, getD};
+ghost use lib.ListN.{length, getD, set};
 ghost use lib.Ieee.{binary64, toBits};
-ghost use Rattle.words.specs.Words.{word16, word32, word64, valueAt, bytes2, bytes4, bytes8, put, links};
+ghost use Rattle.words.specs.Words.{word16, word32, word64, valueAt, bytes2, bytes4, bytes8, put, links, zeros};
 
 fn wide(b: u8) -> u16
     ensures { λ r. ⌜ (r ≡ b) × (r < 256) ⌝ }
@@ -174,5 +174,51 @@ pub fn put_floats(out: &mut [u8], at: usize, vs: &[f64])
         put_u64(out, p, floats::to_bits(vs[i]));
         i += 1;
         p += 8;
+    }
+}
+
+// Eight zero bytes. Where they are zero already nothing is stored: a loop of mere stores would become a call of the C library's memset, and the archive
+// calls no library.
+fn put_zero_word(out: &mut [u8], at: usize)
+    requires { ⌜ at + 8 ≤ length (now out) ⌝ }
+    ensures { λ _. ⌜ now (out .exit) ≡ put (now (out .entry)) at (zeros 8) ⌝ }
+{
+    if u64_at(out, at) != 0 {
+        put_u64(out, at, 0);
+    }
+}
+
+// One zero byte, likewise.
+fn put_zero(out: &mut [u8], at: usize)
+    requires { ⌜ at + 1 ≤ length (now out) ⌝ }
+    ensures { λ _. ⌜ now (out .exit) ≡ put (now (out .entry)) at (zeros 1) ⌝ }
+{
+    if out[at] != 0 {
+        out[at] = 0;
+    }
+}
+
+// The first of so many zero bytes: eight of them where there are eight or more, else one. Answers how many.
+fn put_first_zeros(out: &mut [u8], at: usize, count: usize) -> usize
+    requires { ⌜ (1 ≤ count) × (at + count ≤ length (now out)) ⌝ }
+    ensures { λ r. ⌜ (1 ≤ r) × (r ≤ count) × (now (out .exit) ≡ put (now (out .entry)) at (zeros r)) ⌝ }
+{
+    if 8 <= count {
+        put_zero_word(out, at);
+        8
+    } else {
+        put_zero(out, at);
+        1
+    }
+}
+
+// So many zero bytes.
+pub fn put_zeros(out: &mut [u8], at: usize, count: usize)
+    requires { ⌜ at + count ≤ length (now out) ⌝ }
+    ensures { λ _. ⌜ now (out .exit) ≡ put (now (out .entry)) at (zeros count) ⌝ }
+{
+    let mut i = 0;
+    while i < count {
+        i += put_first_zeros(out, at + i, count - i);
     }
 }

@@ -1,3 +1,4 @@
 pub mod Writing
 pub mod ParseWritten
 pub mod WriteParsed
+pub mod Plain

@@ -1,16 +1,19 @@
 -- Document 01: "Parsing what was written returns every field, counts and block length as written", also with other bytes before and behind,
--- and the references and values read by place are those written. Assumes nothing.
+-- and the references and values read by place are those written. With the padding kept, reserved bytes and excess come back too; and why the writer
+-- refuses with 23: what it would write has a range for parsing, where the record has none. Assumes nothing.
 use mathlib.Core.Path.{_≡_, refl, sym, ap, _∙_}
 use mathlib.Core.Bool.{Bool, true, false}
 use mathlib.Core.List.{List, [], _++_, append-assoc}
 use Prim.Native.Nat.{ℕ, _+_, _-_, _*_, _^_, _≤_, _<_}
 use native.Mathlib.Nat.{add-zero}
 use native.Mathlib.Omega.{arith}
-use borrow.Author.Tests.{le-leb, lt-leb, le-ltb, eq-eqb}
+use borrow.Author.Tests.{leb-true, leb-false, le-leb, lt-leb, le-ltb, eq-eqb}
+use lib.Dec.{leb}
 use lib.ListN.{length, drop, length-append}
 use lib.Seq.{drop-drop, getD-drop, drop-append-seam}
-use Rattle.words.specs.Words.{word16, word32, word64, words, valueAt, links}
-use Rattle.words.proofs.Laws.{word16-bytes, word64-bytes, words-links, length-links, Words64}
+use Rattle.words.specs.Words.{word16, word32, word64, words, valueAt, links, zeros}
+use Rattle.words.proofs.Clash.{clash}
+use Rattle.words.proofs.Laws.{word16-bytes, word32-bytes, word64-bytes, words-links, length-links, Words64}
 use Rattle.words.proofs.Slices.{word16-drop, word32-drop, word64-drop, words-drop}
 use Rattle.floats.proofs.Kept.{kept-reads-back, kept-small}
 use Rattle.floats.specs.Kept.{keptBits}
@@ -19,8 +22,9 @@ use Rattle.blocks.specs.Block.{fixedAt, refCount, fieldsPlace, fieldsAt, valCou
 use Rattle.blocks.specs.Make.{fixedOf}
 use Rattle.blocks.specs.Place.{wordIn, referenceOf, valueWordOf, wordAt}
 use Rattle.blocks.proofs.Places.{by-place}
-use Rattle.writer.specs.Write.{writeSize, headerBytes, fixedBytes, fieldBytes, rangeBytes, frontBytes, blockBytes, writeAnswer, outputHolds, WriteCall, writeCall, writing}
-use Rattle.writer.specs.Stored.{storedFields, storedRange, stored, Sized}
+use Rattle.padding.specs.Kept.{readEnd, excessAt, padded, keeping, parsedIn}
+use Rattle.writer.specs.Write.{writeSize, headerBytes, fixedBytes, fieldBytes, rangeBytes, frontBytes, blockBytes, readAsRange, writeAnswer, outputHolds, WriteCall, writeCall, writing}
+use Rattle.writer.specs.Stored.{storedFields, storedRange, stored, storedKept, Sized}
 use Rattle.writer.proofs.Writing.{length-range, length-block, answer-fits}
 use Rattle.common.specs.declared.header.Header.{Header}
 use Rattle.blocks.specs.declared.Fields.{Fields}
@@ -48,12 +52,14 @@ range-drop s p true = simp (word64-drop, add-zero)
 range-drop s p false = refl
 
 -- ---- and each reads as it was written; a number's law may leave out what follows it, which is not read
-header-bytes : (size count : ℕ) (rest : List ℕ) → size < 2 ^ 64 → count < 2 ^ 64
-    → headerAt (headerBytes size count ++ rest) 0 ≡ record { id = conversionId; reserved = 0; length = size; links = count }
+header-bytes : (reserved size count : ℕ) (rest : List ℕ) → reserved < 2 ^ 32 → size < 2 ^ 64 → count < 2 ^ 64
+    → headerAt (headerBytes reserved size count ++ rest) 0 ≡ record { id = conversionId; reserved = reserved; length = size; links = count }
 unfolding headerAt headerBytes word64 word32 word16
-header-bytes size count rest h k =
-    let first : word64 (headerBytes size count ++ rest) 8 ≡ size = word64-bytes size [] h in
-    let second : word64 (headerBytes size count ++ rest) 16 ≡ count = word64-bytes count [] k in
+header-bytes reserved size count rest g h k =
+    let all = headerBytes reserved size count ++ rest in
+    let first : word32 all 4 ≡ reserved = word32-bytes reserved [] g in
+    let second : word64 all 8 ≡ size = word64-bytes size [] h in
+    let third : word64 all 16 ≡ count = word64-bytes count [] k in
     cc
 
 fixed-bytes : (b : Block) (rest : List ℕ) → Sized b → fixedAt (fixedBytes b ++ rest) 0 ≡ fixedOf b
@@ -86,11 +92,21 @@ range-bytes b true rest h =
     cc (kept-reads-back (b .minimum) (b .minword) (h .minimum), kept-reads-back (b .maximum) (b .maxword) (h .maximum))
 range-bytes b false rest h = refl
 
--- the range is found exactly where it was written
-range-found : (r : Bool) (refs values : ℕ) → hasRange (writeSize r refs values) (4 + refs) values ≡ r
+-- the range is found exactly where it was written, unless an excess is read as one
+range-found : (r : Bool) (refs values excess : ℕ) → readAsRange r excess ≡ false → hasRange (writeSize r refs values excess) (4 + refs) values ≡ r
 unfolding writeSize
-range-found true refs values = le-leb (24 + 8 * (4 + refs) + 8 + 8 * values + 16) (writeSize true refs values) (omega arith)
-range-found false refs values = lt-leb (24 + 8 * (4 + refs) + 8 + 8 * values + 16) (writeSize false refs values) (omega arith)
+range-found true refs values excess h = le-leb (24 + 8 * (4 + refs) + 8 + 8 * values + 16) (writeSize true refs values excess) (omega arith)
+range-found false refs values excess h =
+    let few = leb-false 16 excess h in
+    lt-leb (24 + 8 * (4 + refs) + 8 + 8 * values + 16) (writeSize false refs values excess) (omega arith)
+
+range-taken : (r : Bool) (refs values excess : ℕ) → readAsRange r excess ≡ true
+    → (r ≡ false) × (16 ≤ excess) × (hasRange (writeSize r refs values excess) (4 + refs) values ≡ true)
+unfolding writeSize
+range-taken true refs values excess h = clash cc
+range-taken false refs values excess h =
+    let many = leb-true 16 excess h in
+    (refl, many, le-leb (24 + 8 * (4 + refs) + 8 + 8 * values + 16) (writeSize false refs values excess) (omega arith))
 
 -- what follows a part
 next : (s xs ys : List ℕ) (p q : ℕ) → drop p s ≡ xs ++ ys → p + length xs ≡ q → drop q s ≡ ys
@@ -111,11 +127,14 @@ module _ (front rest : List ℕ) (b : Block) (refs values : List ℕ) where
   n = length refs
 
   abbrev size : ℕ
-  size = writeSize (b .ranged) n (length values)
+  size = writeSize (b .ranged) n (length values) (b .excess)
 
   -- what is left of the image from each part on
+  abbrev fromZeros : List ℕ
+  fromZeros = zeros (b .excess) ++ rest
+
   abbrev fromValues : List ℕ
-  fromValues = links values ++ rest
+  fromValues = links values ++ fromZeros
 
   abbrev fromRange : List ℕ
   fromRange = rangeBytes b (b .ranged) ++ fromValues
@@ -129,13 +148,13 @@ module _ (front rest : List ℕ) (b : Block) (refs values : List ℕ) where
   abbrev fromFixed : List ℕ
   fromFixed = fixedBytes b ++ fromRefs
 
-  at-header : drop a image ≡ headerBytes size (4 + n) ++ fromFixed
+  at-header : drop a image ≡ headerBytes (b .reserved) size (4 + n) ++ fromFixed
   unfolding blockBytes frontBytes
   at-header = drop-append-seam front (blockBytes b refs values ++ rest) ∙ simp append-assoc
 
   at-fixed : drop (a + 24) image ≡ fromFixed
   unfolding headerBytes
-  at-fixed = next image (headerBytes size (4 + n)) fromFixed a (a + 24) at-header refl
+  at-fixed = next image (headerBytes (b .reserved) size (4 + n)) fromFixed a (a + 24) at-header refl
 
   at-refs : drop (a + 56) image ≡ fromRefs
   unfolding fixedBytes
@@ -170,16 +189,20 @@ module _ (front rest : List ℕ) (b : Block) (refs values : List ℕ) where
   unfolding stored valueWordOf writeSize
   values-written h i =
       let p = a + 64 + 8 * n + rangeSize (b .ranged) in
-      by-place image p (length values) i (omega (arith, long-enough)) ∙ ap (λ (ws : List ℕ). wordAt ws i) (listed image p values rest at-values h)
+      by-place image p (length values) i (omega (arith, long-enough)) ∙ ap (λ (ws : List ℕ). wordAt ws i) (listed image p values fromZeros at-values h)
 
   -- what parsing reads, in the order in which one place follows from another
-  module _ (sized : Sized b) (few : length values ≤ 65535) (fits : writeSize (b .ranged) (length refs) (length values) < 2 ^ 64) where
-    header : headerAt image a ≡ record { id = conversionId; reserved = 0; length = size; links = 4 + n }
+  module _ (sized : Sized b) (few : length values ≤ 65535) (fits : writeSize (b .ranged) (length refs) (length values) (b .excess) < 2 ^ 64) where
+    header : headerAt image a ≡ record { id = conversionId; reserved = b .reserved; length = size; links = 4 + n }
     unfolding writeSize
-    header = cc (header-drop image a, at-header, header-bytes size (4 + n) fromFixed fits (omega arith))
+    header = cc (header-drop image a, at-header, header-bytes (b .reserved) size (4 + n) fromFixed (sized .reserved) fits (omega arith))
 
     fixed : fixedAt image (a + 24) ≡ fixedOf b
     fixed = cc (fixed-drop image (a + 24), at-fixed, fixed-bytes b fromRefs sized)
+
+    reserved : word32 image (a + 4) ≡ b .reserved
+    unfolding headerAt
+    reserved = ap (λ (h : Header). h .reserved) header
 
     long : word64 image (a + 8) ≡ size
     unfolding headerAt
@@ -200,33 +223,74 @@ module _ (front rest : List ℕ) (b : Block) (refs values : List ℕ) where
     unfolding valCount fieldsAt
     counted = ap (λ (g : Fields). g .valcount) fields
 
-    found : isRanged image a ≡ b .ranged
+    tested : isRanged image a ≡ hasRange size (4 + n) (length values)
     unfolding isRanged
-    found = cc (long, linked, counted, range-found (b .ranged) n (length values))
+    tested = cc (long, linked, counted)
 
-    range : rangeAt image (fieldsPlace image a + 8) (isRanged image a) ≡ storedRange b (b .ranged)
-    range =
-        let p : fieldsPlace image a + 8 ≡ a + 64 + 8 * n = omega (arith, place) in
-        cc (found, range-drop image (a + 64 + 8 * n) (b .ranged), at-range, range-bytes b (b .ranged) fromValues sized)
-
-    behind : valuesPlace image a ≡ a + 64 + 8 * n + rangeSize (b .ranged)
-    unfolding valuesPlace
-    behind = rw found (omega (arith, place))
-
-    pub parse-written : parsed (front ++ (blockBytes b refs values ++ rest)) (length front) ≡ Whole (stored (length front) b (length refs) (length values))
-    unfolding parsed parsedForRepair retired fewLinks inside isConversion opened blockEnd blockAt stored writeSize headerAt
-    parse-written =
-        let all : length image ≡ a + (size + length rest) = simp (length-append, length-block) in
-        let first : inside image a ≡ true = le-leb (a + 24) (length image) (omega arith) in
+    -- what lies whole in the image is parsed
+    whole : blockEnd image a ≤ length image → parsed image a ≡ Whole (blockAt image a)
+    unfolding parsed parsedForRepair retired fewLinks inside isConversion opened headerAt blockEnd valuesPlace
+    whole end =
+        let first : inside image a ≡ true = le-leb (a + 24) (length image) (omega (arith, place)) in
         let second : isConversion image a ≡ true = eq-eqb (word32 image a) conversionId (ap (λ (h : Header). h .id) header) in
-        let end : blockEnd image a ≤ length image = omega (arith, behind, counted) in
-        let block : blockAt image a ≡ stored a b n (length values) = cc (long, linked, fixed, fields, range, behind) in
         let third : fewLinks image a ≡ false = le-ltb (word64 image (a + 16)) 4 (omega (arith, linked)) in
-        rw (first, second, third, le-leb (blockEnd image a) (length image) end) (ap Whole block)
+        rw (first, second, third, le-leb (blockEnd image a) (length image) end)
+
+    -- ---- the excess is not read as a range
+    module _ (unread : readAsRange (b .ranged) (b .excess) ≡ false) where
+      found : isRanged image a ≡ b .ranged
+      found = tested ∙ range-found (b .ranged) n (length values) (b .excess) unread
+
+      range : rangeAt image (fieldsPlace image a + 8) (isRanged image a) ≡ storedRange b (b .ranged)
+      range =
+          let p : fieldsPlace image a + 8 ≡ a + 64 + 8 * n = omega (arith, place) in
+          cc (found, range-drop image (a + 64 + 8 * n) (b .ranged), at-range, range-bytes b (b .ranged) fromValues sized)
+
+      behind : valuesPlace image a ≡ a + 64 + 8 * n + rangeSize (b .ranged)
+      unfolding valuesPlace
+      behind = rw found (omega (arith, place))
+
+      pub parse-written : parsed (front ++ (blockBytes b refs values ++ rest)) (length front) ≡ Whole (stored (length front) b (length refs) (length values))
+      unfolding blockEnd blockAt stored writeSize
+      parse-written =
+          let block : blockAt image a ≡ stored a b n (length values) = cc (long, linked, fixed, fields, range, behind) in
+          whole (omega (arith, long-enough, behind, counted)) ∙ ap Whole block
+
+      -- the excess that is counted in what was written is the record's
+      excess-is : excessAt a (stored a b n (length values)) ≡ b .excess
+      unfolding excessAt readEnd stored writeSize
+      excess-is = omega arith
+
+      end-is : readEnd (stored a b n (length values)) + b .excess ≡ a + size
+      unfolding readEnd stored writeSize
+      end-is = omega arith
+
+      pub kept-written : parsedIn true (front ++ (blockBytes b refs values ++ rest)) (length front)
+          ≡ Whole (storedKept (length front) b (length refs) (length values))
+      unfolding parsedIn padded storedKept
+      kept-written =
+          let s = stored a b n (length values) in
+          let test : leb (readEnd s + excessAt a s) (length image) ≡ true =
+          le-leb (readEnd s + excessAt a s) (length image) (omega (arith, excess-is, end-is, long-enough)) in
+          ap (keeping true image a) parse-written ∙ rw (test, reserved, excess-is)
+
+    -- ---- why 23: the bytes that the writer would make have a range for parsing, and the record has none
+    pub read-as-range : readAsRange (b .ranged) (b .excess) ≡ true
+        → (b .ranged ≡ false) × (parsed (front ++ (blockBytes b refs values ++ rest)) (length front) ≡ Whole (blockAt image a)) × (blockAt image a .ranged ≡ true)
+    unfolding blockEnd valuesPlace blockAt writeSize
+    read-as-range h =
+        let taken = range-taken (b .ranged) n (length values) (b .excess) h in
+        let ranged : isRanged image a ≡ true = tested ∙ taken .2 in
+        let size-of : rangeSize (isRanged image a) ≡ 16 = ap rangeSize ranged in
+        let plain : rangeSize (b .ranged) ≡ 0 = ap rangeSize (taken .0) in (
+          taken .0,
+          whole (omega (arith, long-enough, place, counted, size-of, plain, taken .1)),
+          rw ranged refl,
+        )
 
 -- ---- the same, said of the writer's own answer: where it wrote, the output parses at 0, and reads by place as it was written
 answered : (b : Block) (refs values out : List ℕ) (k : ℕ) (img : List ℕ) → writing b refs values out ≡ writeCall (Bytes k) img
-    → writeAnswer (b .ranged) (length refs) (length values) (length out) ≡ Bytes k
+    → writeAnswer (b .ranged) (length refs) (length values) (b .excess) (length out) ≡ Bytes k
 unfolding writing
 answered b refs values out k img e = ap (λ (o : WriteCall). o .result) e
 
@@ -236,17 +300,22 @@ unfolding writing
 held b refs values out k img e =
     ap (λ (w : Written). outputHolds w (blockBytes b refs values) out) (sym (answered b refs values out k img e)) ∙ ap (λ (o : WriteCall). o .output) e
 
-pub output-parses : (b : Block) (refs values out : List ℕ) (k : ℕ) (img : List ℕ) → Sized b
-    → writeSize (b .ranged) (length refs) (length values) < 2 ^ 64 → writing b refs values out ≡ writeCall (Bytes k) img
-    → parsed img 0 ≡ Whole (stored 0 b (length refs) (length values))
-output-parses b refs values out k img sized fits e =
-    let fit = answer-fits (b .ranged) (length refs) (length values) (length out) k (answered b refs values out k img e) in
-    rw (sym (held b refs values out k img e)) (parse-written [] (drop k out) b refs values sized (fit .few) fits)
+module _ (b : Block) (refs values out : List ℕ) (k : ℕ) (img : List ℕ) (e : writing b refs values out ≡ writeCall (Bytes k) img) where
+  pub output-parses : Sized b → writeSize (b .ranged) (length refs) (length values) (b .excess) < 2 ^ 64
+      → parsed img 0 ≡ Whole (stored 0 b (length refs) (length values))
+  output-parses sized fits =
+      let fit = answer-fits (b .ranged) (length refs) (length values) (b .excess) (length out) k (answered b refs values out k img e) in
+      rw (sym (held b refs values out k img e)) (parse-written [] (drop k out) b refs values sized (fit .few) fits (fit .read-back))
 
-pub output-reads : (b : Block) (refs values out : List ℕ) (k : ℕ) (img : List ℕ) → Words64 refs → Words64 values
-    → writing b refs values out ≡ writeCall (Bytes k) img → (i : ℕ)
-    → (referenceOf img (stored 0 b (length refs) (length values)) i ≡ wordAt refs i)
-    × (valueWordOf img (stored 0 b (length refs) (length values)) i ≡ wordAt values i)
-output-reads b refs values out k img h g e i =
-    rw (sym (held b refs values out k img e))
-    (references-written [] (drop k out) b refs values h i, values-written [] (drop k out) b refs values g i)
+  pub output-kept : Sized b → writeSize (b .ranged) (length refs) (length values) (b .excess) < 2 ^ 64
+      → parsedIn true img 0 ≡ Whole (storedKept 0 b (length refs) (length values))
+  output-kept sized fits =
+      let fit = answer-fits (b .ranged) (length refs) (length values) (b .excess) (length out) k (answered b refs values out k img e) in
+      rw (sym (held b refs values out k img e)) (kept-written [] (drop k out) b refs values sized (fit .few) fits (fit .read-back))
+
+  pub output-reads : Words64 refs → Words64 values → (i : ℕ)
+      → (referenceOf img (stored 0 b (length refs) (length values)) i ≡ wordAt refs i)
+      × (valueWordOf img (stored 0 b (length refs) (length values)) i ≡ wordAt values i)
+  output-reads h g i =
+      rw (sym (held b refs values out k img e))
+      (references-written [] (drop k out) b refs values h i, values-written [] (drop k out) b refs values g i)

@@ -1,12 +1,12 @@
--- The record that parsing gives for a written block (document 01, "Parsing what was written returns every field, counts and block length as written").
--- Assumes nothing: these are definitions.
+-- The record that parsing gives for a written block (document 01, "Parsing what was written returns every field, counts and block length as written";
+-- with the padding kept, that too). Assumes nothing: these are definitions.
 use Prim.Native.Nat.{ℕ, _+_, _*_, _^_, _<_}
 use mathlib.Core.Bool.{Bool, true, false}
 use lib.Dec.{T}
 use lib.Ieee.{binary64, fits}
 use Rattle.floats.specs.Kept.{keptBits}
 use Rattle.blocks.specs.Block.{rangeSize, noRange, recordFrom}
-use Rattle.blocks.specs.Make.{fixedOf}
+use Rattle.blocks.specs.Make.{fixedOf, withPadding}
 use Rattle.writer.specs.Write.{writeSize}
 use Rattle.blocks.specs.declared.Fields.{Fields}
 use Rattle.blocks.specs.declared.Range.{Range}
@@ -29,17 +29,23 @@ storedRange b true =
     }
 storedRange b false = noRange
 
--- written at a with so many references and values
+-- written at a with so many references and values, and parsed plainly; the padding counts in the block length
 unfoldable pub stored : ℕ → Block → ℕ → ℕ → Block
 stored a b refs values =
     recordFrom
-    (writeSize (b .ranged) refs values)
+    (writeSize (b .ranged) refs values (b .excess))
     (4 + refs)
     (fixedOf b)
     (storedFields b values)
     (storedRange b (b .ranged))
     (a + 56)
     (a + 64 + 8 * refs + rangeSize (b .ranged))
+    0
+    0
+
+-- the same with the padding kept
+unfoldable pub storedKept : ℕ → Block → ℕ → ℕ → Block
+storedKept a b refs values = withPadding (stored a b refs values) (b .reserved) (b .excess)
 
 -- each field has the size of its type
 pub record Sized (b : Block) : Type 0 where
@@ -55,3 +61,4 @@ pub record Sized (b : Block) : Type 0 where
   pub maximum : T (fits binary64 (b .maximum))
   pub minword : b .minword < 2 ^ 64
   pub maxword : b .maxword < 2 ^ 64
+  pub reserved : b .reserved < 2 ^ 32

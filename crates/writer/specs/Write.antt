@@ -1,27 +1,27 @@
--- The bytes that the writer makes, and what it answers (document 01, "The writer takes the record's fields, ..", and refusals 8 and 9).
--- Assumes nothing: these are definitions.
+-- The bytes that the writer makes, and what it answers (document 01, "The writer takes the record's fields, ..", and refusals 8 and 9; request [6]:
+-- "the writer writes them back, the excess as zeros", and refusal 23). Assumes nothing: these are definitions.
 use Prim.Native.Nat.{ℕ, _+_, _*_}
 use mathlib.Core.Bool.{Bool, true, false, cond}
 use mathlib.Core.List.{List, [], _∷_, _++_, map}
-use lib.Dec.{ltb}
+use lib.Dec.{leb, ltb}
 use lib.ListN as ListN
 use lib.Ieee.{binary64, ofBits, toBits}
 use Rattle.floats.specs.Kept.{keptBits}
-use Rattle.words.specs.Words.{bytes2, bytes4, bytes8, links}
+use Rattle.words.specs.Words.{bytes2, bytes4, bytes8, links, zeros}
 use Rattle.common.specs.Header.{conversionId}
 use Rattle.blocks.specs.Block.{rangeSize}
 use Rattle.blocks.specs.declared.Block.{Block}
-use Rattle.common.specs.declared.refusal.Refusal.the-variants.{Room, Count}
+use Rattle.common.specs.declared.refusal.Refusal.the-variants.{Room, Count, Padding}
 use Rattle.writer.specs.declared.Written.{Written}
 use Rattle.writer.specs.declared.Written.the-variants.{Bytes, Unwritten}
 
 -- block length of exactly what is written
-unfoldable pub writeSize : Bool → ℕ → ℕ → ℕ
-writeSize ranged refs values = 64 + 8 * refs + rangeSize ranged + 8 * values
+unfoldable pub writeSize : Bool → ℕ → ℕ → ℕ → ℕ
+writeSize ranged refs values excess = 64 + 8 * refs + rangeSize ranged + 8 * values + excess
 
--- id ##CC, zero reserved bytes, block length, link count
-unfoldable pub headerBytes : ℕ → ℕ → List ℕ
-headerBytes length links = bytes4 conversionId ++ bytes4 0 ++ bytes8 length ++ bytes8 links
+-- id ##CC, reserved bytes, block length, link count
+unfoldable pub headerBytes : ℕ → ℕ → ℕ → List ℕ
+headerBytes reserved length links = bytes4 conversionId ++ bytes4 reserved ++ bytes8 length ++ bytes8 links
 
 unfoldable pub fixedBytes : Block → List ℕ
 fixedBytes b = bytes8 (b .name) ++ bytes8 (b .unit) ++ bytes8 (b .comment) ++ bytes8 (b .inverse)
@@ -38,22 +38,28 @@ rangeBytes b false = []
 -- all before the values; link count 4 + references
 unfoldable pub frontBytes : Block → List ℕ → ℕ → ℕ → List ℕ
 frontBytes b refs values length =
-    headerBytes length (4 + ListN.length refs) ++ fixedBytes b ++ links refs ++ fieldBytes b values ++ rangeBytes b (b .ranged)
+    headerBytes (b .reserved) length (4 + ListN.length refs) ++ fixedBytes b ++ links refs ++ fieldBytes b values ++ rangeBytes b (b .ranged)
 
 -- words that were read as floats and written again: a NaN's pattern becomes the one that IEEE 754 names, any other word stays (docs/EXCEPTIONS.md)
 abbrev pub throughFloats : List ℕ → List ℕ
 throughFloats ws = map (toBits binary64) (map (ofBits binary64) ws)
 
--- the block with these references and these values' 64 bits
+-- the block with these references and these values' 64 bits, and the excess as zeros
 unfoldable pub blockBytes : Block → List ℕ → List ℕ → List ℕ
 blockBytes b refs values =
-    frontBytes b refs (ListN.length values) (writeSize (b .ranged) (ListN.length refs) (ListN.length values)) ++ links values
+    frontBytes b refs (ListN.length values) (writeSize (b .ranged) (ListN.length refs) (ListN.length values) (b .excess)) ++ links values ++ zeros (b .excess)
 
--- 9 over 65,535 values, before 8 where the output is too short; else how many bytes are written
-unfoldable pub writeAnswer : Bool → ℕ → ℕ → ℕ → Written
-writeAnswer ranged refs values room =
+-- "16 or more bytes of excess without a range (they would be read as one)"
+abbrev pub readAsRange : Bool → ℕ → Bool
+readAsRange true excess = false
+readAsRange false excess = leb 16 excess
+
+-- 9 over 65,535 values, then 23, before 8 where the output is too short; else how many bytes are written. Sums are exact, so a huge excess is 8 or 23
+unfoldable pub writeAnswer : Bool → ℕ → ℕ → ℕ → ℕ → Written
+writeAnswer ranged refs values excess room =
     cond (ltb 65535 values) (Unwritten Count)
-    (cond (ltb room (writeSize ranged refs values)) (Unwritten Room) (Bytes (writeSize ranged refs values)))
+    (cond (readAsRange ranged excess) (Unwritten Padding)
+    (cond (ltb room (writeSize ranged refs values excess)) (Unwritten Room) (Bytes (writeSize ranged refs values excess))))
 
 -- a success writes the block from byte 0 and changes nothing after; a refusal leaves the output untouched
 abbrev pub outputHolds : Written → List ℕ → List ℕ → List ℕ
@@ -70,5 +76,5 @@ writeCall r out = record { result = r; output = out }
 
 unfoldable pub writing : Block → List ℕ → List ℕ → List ℕ → WriteCall
 writing b refs values out =
-    let says = writeAnswer (b .ranged) (ListN.length refs) (ListN.length values) (ListN.length out) in
+    let says = writeAnswer (b .ranged) (ListN.length refs) (ListN.length values) (b .excess) (ListN.length out) in
     writeCall says (outputHolds says (blockBytes b refs values) out)

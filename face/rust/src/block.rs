@@ -43,10 +43,15 @@ pub struct ConversionBlock {
     pub cc_val_count: u16,
     /// The range, whole or not at all. A bound that is a NaN keeps its bits.
     pub cc_phy_range: Option<PhysicalRange>,
+    /// The four reserved bytes behind the id, little-endian. 0 out of [`parse`](Self::parse).
+    pub reserved: u32,
+    /// By how many bytes the block length exceeds what was read; for writing, how many zero bytes go behind the values. 0 out of
+    /// [`parse`](Self::parse).
+    pub excess: u64,
 }
 
 impl ConversionBlock {
-    /// A block of this type to be filled and written: no links, no range, and every number 0.
+    /// A block of this type to be filled and written: no links, no range, no padding, and every number 0.
     pub fn new(cc_type: ConversionType) -> ConversionBlock {
         ConversionBlock {
             block_len: 0,
@@ -61,10 +66,12 @@ impl ConversionBlock {
             cc_ref_count: 0,
             cc_val_count: 0,
             cc_phy_range: None,
+            reserved: 0,
+            excess: 0,
         }
     }
 
-    /// Reads the fields of the one block at `address`.
+    /// Reads the fields of the one block at `address`. Its padding is left out: `reserved` and `excess` are 0.
     ///
     /// # Errors
     ///
@@ -92,11 +99,48 @@ impl ConversionBlock {
     /// ```
     pub fn parse(image: &[u8], address: u64) -> Result<ConversionBlock, Refusal> {
         // SAFETY: pointer and length are those of one slice.
-        let parsed = unsafe { raw::mdf_parse(image.as_ptr(), image.len(), address) };
-        match parsed.refusal {
-            0 => Ok(ConversionBlock::of_raw(&parsed.block)),
-            number => Err(Refusal::at(number, parsed.address)),
-        }
+        block_of(unsafe { raw::mdf_parse(image.as_ptr(), image.len(), address) })
+    }
+
+    /// Reads the fields of the one block at `address` and keeps its padding, so that it can be written as long as it was.
+    ///
+    /// `reserved` has the four bytes behind the id. `excess` has how far the block length exceeds the bytes that were read, from the address to the
+    /// end of the values; 0 where the block length is below that, and never more than 15 without a range, since 16 are one. What the excess bytes
+    /// hold is not looked at.
+    ///
+    /// Writing what was parsed, with the block's references and the 64 bits of its values, returns its bytes, where the excess bytes are zero and
+    /// the block length is not below the bytes that were read.
+    ///
+    /// # Errors
+    ///
+    /// Those of [`parse`](Self::parse), and then refusal 4 where the excess passes the image end.
+    ///
+    /// ```
+    /// use mdf_conversion::{ConversionBlock, Refusal};
+    ///
+    /// // Torque, a linear conversion, stands at 528 and has 80 bytes. Here it has 8 more, and reserved bytes.
+    /// let image = std::fs::read("../../samples/tractor.mdf").unwrap();
+    /// let mut torque = image[528..][..80].to_vec();
+    /// torque.extend([0; 8]);
+    /// torque[4..8].copy_from_slice(&[1, 2, 3, 4]);
+    /// torque[8] = 88;
+    ///
+    /// let block = ConversionBlock::parse_kept(&torque, 0)?;
+    /// assert_eq!((block.reserved, block.excess), (0x04030201, 8));
+    ///
+    /// // What was parsed is written as it was.
+    /// let mut out = [0xff; 88];
+    /// assert_eq!(block.write(&[], &[0.0, 0.125], &mut out), Ok(88));
+    /// assert_eq!(out, torque[..]);
+    ///
+    /// // The excess has to lie in the image.
+    /// assert_eq!(ConversionBlock::parse_kept(&torque[..87], 0), Err(Refusal::Short(0)));
+    /// assert_eq!(ConversionBlock::parse(&torque[..87], 0), Ok(ConversionBlock { reserved: 0, excess: 0, ..block }));
+    /// # Ok::<(), Refusal>(())
+    /// ```
+    pub fn parse_kept(image: &[u8], address: u64) -> Result<ConversionBlock, Refusal> {
+        // SAFETY: pointer and length are those of one slice.
+        block_of(unsafe { raw::mdf_parse_kept(image.as_ptr(), image.len(), address) })
     }
 
     /// The references of the block at `address`, in order. A reference of 0 leads nowhere.
@@ -183,15 +227,16 @@ impl ConversionBlock {
         word_of(unsafe { raw::mdf_value_word(image.as_ptr(), image.len(), address, place) })
     }
 
-    /// Writes the block with these references and values, each value as its 64 bits, and answers how many bytes it wrote.
+    /// Writes the block with these references and values, each value as its 64 bits, and `excess` zero bytes behind them. Answers how many bytes it
+    /// wrote.
     ///
-    /// The link count is 4 and the number of references, the value count the number of values, the block length what is written: `links_nr`,
-    /// `cc_val_count` and `block_len` are not looked at. Afterwards the block stands in `out` from byte 0 on and the bytes behind it are as they
-    /// were. After a refusal all of `out` is as it was.
+    /// The link count is 4 and the number of references, the value count the number of values, the block length what is written, the excess with
+    /// it: `links_nr`, `cc_val_count` and `block_len` are not looked at. Afterwards the block stands in `out` from byte 0 on and the bytes behind it
+    /// are as they were. After a refusal all of `out` is as it was.
     ///
     /// # Errors
     ///
-    /// Refusal 9 [`Refusal::Count`], then 8 [`Refusal::Room`].
+    /// Refusal 9 [`Refusal::Count`], then 23 [`Refusal::Padding`], then 8 [`Refusal::Room`].
     ///
     /// ```
     /// use mdf_conversion::{ConversionBlock, ConversionType, Refusal};
@@ -209,6 +254,10 @@ impl ConversionBlock {
     /// let linear = ConversionBlock { cc_precision: 3, ..ConversionBlock::new(ConversionType::Linear) };
     /// assert_eq!(linear.write(&[], &[0.0, 0.125], &mut out), Ok(80));
     /// assert_eq!(linear.write(&[], &[0.0, 0.125], &mut out[..79]), Err(Refusal::Room(None)));
+    ///
+    /// // Without a range 15 bytes of excess are the most.
+    /// assert_eq!(ConversionBlock { excess: 15, ..linear }.write(&[], &[0.0, 0.125], &mut out), Ok(95));
+    /// assert_eq!(ConversionBlock { excess: 16, ..linear }.write(&[], &[0.0, 0.125], &mut out), Err(Refusal::Padding));
     /// # Ok::<(), Refusal>(())
     /// ```
     pub fn write(&self, cc_ref: &[u64], cc_val: &[f64], out: &mut [u8]) -> Result<usize, Refusal> {
@@ -241,6 +290,7 @@ impl ConversionBlock {
             0 => Ok(written.length as usize),
             8 => Err(Refusal::Room(None)),
             9 => Err(Refusal::Count),
+            23 => Err(Refusal::Padding),
             number => unreachable!("the archive refuses with the number {number}"),
         }
     }
@@ -265,6 +315,8 @@ impl ConversionBlock {
             cc_ref_count: block.ref_count,
             cc_val_count: block.val_count,
             cc_phy_range: (block.ranged != 0).then_some(range),
+            reserved: block.reserved,
+            excess: block.excess,
         }
     }
 
@@ -281,6 +333,8 @@ impl ConversionBlock {
             range_max: range.max,
             min_word: range.min.to_bits(),
             max_word: range.max.to_bits(),
+            excess: self.excess,
+            reserved: self.reserved,
             flags: self.cc_flags,
             ref_count: self.cc_ref_count,
             val_count: self.cc_val_count,
@@ -293,6 +347,13 @@ impl ConversionBlock {
 
 fn link(address: u64) -> Option<u64> {
     (address != 0).then_some(address)
+}
+
+fn block_of(parsed: raw::Parsed) -> Result<ConversionBlock, Refusal> {
+    match parsed.refusal {
+        0 => Ok(ConversionBlock::of_raw(&parsed.block)),
+        number => Err(Refusal::at(number, parsed.address)),
+    }
 }
 
 fn word_of(read: raw::Word) -> Result<Option<u64>, Refusal> {

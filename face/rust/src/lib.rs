@@ -24,6 +24,8 @@
 //!
 //! [`apply_in`] is also told the [`Mode`]: how many bits the signal has, and the file's [`Edition`], 4.10 or 4.20. Bit groups depend on both.
 //!
+//! [`ConversionBlock::parse_kept`] also reads the padding of a block, so that the block can be written as long as it was.
+//!
 //! A call computes in the float environment that a program starts with: results round to nearest, and no subnormal number is flushed to zero. In a
 //! program that has changed it, an answer can be another.
 //!
@@ -33,7 +35,8 @@
 //! [`check`] takes at most a constant times N * B, and [`apply`] and [`apply_in`] S + N * (B + R), for a text of Q bytes Q + r * (Q + 1) more, r being
 //! the references of the block at the address. [`translate`] takes what the check and the keys take, and reads the text that it shows once. How long a
 //! text is that is not needed plays no part, nor how many references lead to it. A reference that is the same as the last nested one of its block is
-//! counted by the check and not walked again.
+//! counted by the check and not walked again. [`ConversionBlock::parse`] and [`parse_kept`](ConversionBlock::parse_kept) take a constant, however
+//! large the block and its excess; [`write`](ConversionBlock::write) takes what it writes.
 //!
 //! So the limit and the length of `out` are the caller's brake. Choose a limit well above the nested blocks that one conversion is expected to have:
 //! 4096 is generous. Choose `out` as long as the longest text that can be shown: a longer one is [`Refusal::Room`] at no more cost. A call takes at

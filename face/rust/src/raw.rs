@@ -45,6 +45,8 @@ pub struct Block {
     pub range_max: f64,
     pub min_word: u64,
     pub max_word: u64,
+    pub excess: u64,
+    pub reserved: u32,
     pub flags: u16,
     pub ref_count: u16,
     pub val_count: u16,
@@ -134,6 +136,7 @@ extern "C" {
     pub fn mdf_apply_mode_other(image: *const u8, image_len: usize, address: u64, limit: u32, mode: Mode, out: *mut u8, out_len: usize) -> Applied;
     pub fn mdf_translate(image: *const u8, image_len: usize, address: u64, limit: u32, question: *const u8, question_len: usize) -> Shown;
     pub fn mdf_parse(image: *const u8, image_len: usize, address: u64) -> Parsed;
+    pub fn mdf_parse_kept(image: *const u8, image_len: usize, address: u64) -> Parsed;
     pub fn mdf_reference(image: *const u8, image_len: usize, address: u64, index: u64) -> Word;
     pub fn mdf_value_word(image: *const u8, image_len: usize, address: u64, index: u64) -> Word;
     pub fn mdf_write(block: Block, refs: *const u64, refs_len: usize, words: *const u64, words_len: usize, out: *mut u8, out_len: usize) -> Written;

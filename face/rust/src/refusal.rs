@@ -51,7 +51,7 @@ pub enum Refusal {
     NotConversion(u64),
     /// 3: a visit would exceed the visit limit.
     Limit(u64),
-    /// 4: the image ends inside a ##CC block.
+    /// 4: the image ends inside a ##CC block. For [`parse_kept`](crate::ConversionBlock::parse_kept) also inside its excess.
     Short(u64),
     /// 5: a block at depth 21; the root has depth 0.
     Deep(u64),
@@ -69,6 +69,8 @@ pub enum Refusal {
     Edition,
     /// 18: a ##CC block whose link count is below 4. The program `repair_block` writes it with 4.
     FewLinks(u64),
+    /// 23: 16 or more bytes of excess to write behind a block without a range. They would be read as one.
+    Padding,
 }
 
 impl Refusal {
@@ -88,6 +90,7 @@ impl Refusal {
             Refusal::Width => 11,
             Refusal::Edition => 16,
             Refusal::FewLinks(_) => 18,
+            Refusal::Padding => 23,
         }
     }
 
@@ -107,6 +110,7 @@ impl Refusal {
             Refusal::Width => "Width",
             Refusal::Edition => "Edition",
             Refusal::FewLinks(_) => "FewLinks",
+            Refusal::Padding => "Padding",
         }
     }
 
@@ -121,7 +125,7 @@ impl Refusal {
             | Refusal::Deep(address)
             | Refusal::Loop(address)
             | Refusal::FewLinks(address) => Some(address),
-            Refusal::Formula(_) | Refusal::Room(_) | Refusal::Count | Refusal::Width | Refusal::Edition => None,
+            Refusal::Formula(_) | Refusal::Room(_) | Refusal::Count | Refusal::Width | Refusal::Edition | Refusal::Padding => None,
         }
     }
 

@@ -100,6 +100,8 @@ fn an_answer_that_is_dropped_is_warned_of() {
     #[expect(unused_must_use)]
     ConversionBlock::parse(image, 0);
     #[expect(unused_must_use)]
+    ConversionBlock::parse_kept(image, 0);
+    #[expect(unused_must_use)]
     translate(image, 0, 1, b"E1");
     #[expect(unused_must_use)]
     give();

@@ -1,4 +1,5 @@
-//! Every line of document 01's "Cases", every refusal from 1 to 9, 11 and 18, malformed tables, widths and editions, through the safe functions.
+//! Every line of document 01's "Cases", every refusal from 1 to 9, 11 and 18, malformed tables, widths and editions, through the safe functions. The
+//! padding of a block, and refusal 23, are those of tests/padding.rs.
 #[allow(dead_code)]
 mod image;
 
@@ -450,6 +451,8 @@ fn all_fields() -> ConversionBlock {
         cc_ref_count: 0x5152,
         cc_val_count: 2,
         cc_phy_range: Some(PhysicalRange { min: -2.5, max: f64::INFINITY }),
+        reserved: 0,
+        excess: 0,
     }
 }
 
@@ -496,6 +499,7 @@ fn is_unreadable(image: &Image, refusal: Refusal) {
         assert_eq!(ConversionBlock::value_word(&image.bytes, address, place), Err(refusal));
     }
     assert_eq!(ConversionBlock::parse(&image.bytes, address), Err(refusal));
+    assert_eq!(ConversionBlock::parse_kept(&image.bytes, address), Err(refusal));
     assert_eq!(ConversionBlock::cc_ref(&image.bytes, address).err(), Some(refusal));
     assert_eq!(ConversionBlock::cc_val(&image.bytes, address).err(), Some(refusal));
 }
@@ -740,8 +744,9 @@ fn refusals_have_number_name_address_and_visits() {
         (Refusal::Width, "refused 11 Width", None),
         (Refusal::Edition, "refused 16 Edition", None),
         (Refusal::FewLinks(1234), "refused 18 FewLinks at 1234", None),
+        (Refusal::Padding, "refused 23 Padding", None),
     ];
-    for (number, (refusal, shown, stopped)) in (1..=9).chain([11, 16, 18]).zip(all) {
+    for (number, (refusal, shown, stopped)) in (1..=9).chain([11, 16, 18, 23]).zip(all) {
         assert_eq!((refusal.number(), refusal.to_string().as_str(), refusal.visits()), (number, shown, stopped.map(|s| s.visits)));
         assert_eq!(refusal.malformed(), stopped.is_some_and(|s| s.malformed));
         assert_eq!(refusal.address().is_some(), number <= 6 || number == 18);

@@ -225,6 +225,55 @@ fn fields_of_a_refused_conversion() {
     assert!(groups.out.starts_with("refused 3 Limit at 1664\ntype: 11 bit groups\n"));
 }
 
+/// The fields of a linear conversion in a file of its own, with these lines of padding among them. The check accepts it.
+fn shows_padding(image: &Image, block: u64, length: u64, padding: &str) {
+    let file = Temporary::new("padding", image);
+    let ended = run(&[file.path(), &block.to_string()]);
+    let fields = format!(
+        "accepted, visits 1\ntype: 1 linear\nname: none\nunit: none\ncomment: none\ninverse: none\nprecision: 0\nflags: 0\nrange: none\n\
+        block length: {length}\nlink count: 4\nreference count field: 0\n{padding}references: 0\nvalues: 2\n  0: 0\n  1: 0.125\n"
+    );
+    assert_eq!((ended.status, ended.out, ended.error.as_str()), (0, fields, ""));
+}
+
+#[test]
+fn padding_among_the_fields() {
+    let mut image = Image::new();
+    let block = image.block(1, &[], &[0.0, 0.125]);
+    let passes = "excess: not kept, the block length passes the image end\n";
+    shows_padding(&image, block, 80, "");
+    image.set_block_len(block, 88);
+    shows_padding(&image, block, 88, passes);
+    image.bytes.extend([0; 7]);
+    shows_padding(&image, block, 88, passes);
+    image.bytes.push(0xff);
+    shows_padding(&image, block, 88, "excess: 8\n");
+    image.set_reserved(block, 0x04030201);
+    shows_padding(&image, block, 88, "reserved bytes: 0x04030201\nexcess: 8\n");
+    image.set_reserved(block, u32::MAX);
+    image.set_block_len(block, 80);
+    shows_padding(&image, block, 80, "reserved bytes: 0xffffffff\n");
+    // Below the bytes read there is no excess.
+    image.set_block_len(block, 24);
+    shows_padding(&image, block, 24, "reserved bytes: 0xffffffff\n");
+    // What passes the image end hides the reserved bytes, too: nothing is kept.
+    image.set_block_len(block, 95);
+    shows_padding(&image, block, 95, passes);
+}
+
+#[test]
+fn padding_is_not_applied() {
+    let mut image = Image::new();
+    let block = image.block(1, &[], &[0.0, 0.125]);
+    image.set_reserved(block, u32::MAX);
+    for length in [80, 88, 95] {
+        image.set_block_len(block, length);
+        let file = Temporary::new("applied", &image);
+        let ended = run(&[file.path(), &block.to_string(), "signed", "-3"]);
+        assert_eq!((ended.status, ended.out.as_str()), (0, "number -0.375\nchecked 1 applied 1\n"));
+    }
+}
+
 #[test]
 fn help() {
     let ended = run(&["--help"]);
@@ -239,6 +288,8 @@ fn help() {
         "with the address that 1 to 6 and 18 have",
         "\n  18 FewLinks       the block has fewer than four links; the program repair_block writes it with four\n",
         "\n  checked 2 applied 2, odd range table\n  text slow\todd range table\n",
+        "\n  reserved bytes: 0x04030201    the four bytes behind its id",
+        "\n  excess: 8                     by how many bytes the block length exceeds what was read",
         "Exit status",
         "from 1e16 on and below 1e-5",
         "types 7 and 8",

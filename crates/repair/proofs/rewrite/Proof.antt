@@ -4,7 +4,7 @@ use Prim.Native.Nat.{_≤_}
 use native.Mathlib.Omega.{arith}
 use lib.Seq.{length-take-le}
 use Rattle.repair.proofs.Holding.{rewriting}
-use Rattle.repair.proofs.Reading.{references-fit, values-fit}
+use Rattle.repair.proofs.Reading.{references-fit, values-fit, no-padding}
 use borrow.Author.Needs.{needs}
 use Rattle.repair.proofs.rewrite.Statement.{statement}
 use Rattle.repair.proofs.rewrite.Tie as tie
@@ -65,7 +65,7 @@ returns c =
     let f = g .before .before .before in
     let s = f .before .before .before .before .before .before in
     rewriting (s .args .input .now) (s .args .out .now) (s .args .block) _ _ _ _ (f .before .before .before .reference-count .ensures) (f .gather .ensures)
-    (g .gather2 .ensures) (omega (arith, few-values s)) (c .before .before .write-words .ensures)
+    (g .gather2 .ensures) (omega (arith, few-values s)) (no-padding (s .args .input .now) 0 (s .args .block) (s .pre .1) .1) (c .before .before .write-words .ensures)
 
 pub rewrite-spec : {M : Type 1} → statement M
 rewrite-spec =

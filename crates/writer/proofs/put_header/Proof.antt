@@ -27,7 +27,7 @@ returns : tie.Need-returns
 unfolding headerBytes
 returns c =
     let a = c .before .before .before .before .before .before .before .before .before .before .before .before .before .before .before .before .before .args in
-    four-puts (bytes4 conversionId) (bytes4 0) (bytes8 (a .length)) (bytes8 (a .links)) (now (a .out)) 0 (c .before .before .before .before .before .before .before .before .before .before .before .before .before .before .put-u32 .ensures)
+    four-puts (bytes4 conversionId) (bytes4 (a .reserved)) (bytes8 (a .length)) (bytes8 (a .links)) (now (a .out)) 0 (c .before .before .before .before .before .before .before .before .before .before .before .before .before .before .put-u32 .ensures)
     (c .before .before .before .before .before .before .before .before .before .before .put-u322 .ensures) (c .before .before .before .before .before .before .put-u64 .ensures) (c .before .before .put-u642 .ensures)
 
 pub put-header-spec : {M : Type 1} → statement M

@@ -45,6 +45,8 @@ int main(void) {
     FIELD(mdf_block, range_max);
     FIELD(mdf_block, min_word);
     FIELD(mdf_block, max_word);
+    FIELD(mdf_block, excess);
+    FIELD(mdf_block, reserved);
     FIELD(mdf_block, flags);
     FIELD(mdf_block, ref_count);
     FIELD(mdf_block, val_count);
@@ -79,6 +81,7 @@ int main(void) {
     NUMBER(MDF_REFUSED_WIDTH);
     NUMBER(MDF_REFUSED_EDITION);
     NUMBER(MDF_REFUSED_FEW_LINKS);
+    NUMBER(MDF_REFUSED_PADDING);
     NUMBER(MDF_EDITION_410);
     NUMBER(MDF_EDITION_420);
     return 0;

@@ -36,6 +36,8 @@ fn structs_of_rust() -> String {
             range_max,
             min_word,
             max_word,
+            excess,
+            reserved,
             flags,
             ref_count,
             val_count,
@@ -62,6 +64,7 @@ fn numbers_of_rust() -> String {
         ("MDF_REFUSED_WIDTH", Refusal::Width.number()),
         ("MDF_REFUSED_EDITION", Refusal::Edition.number()),
         ("MDF_REFUSED_FEW_LINKS", Refusal::FewLinks(0).number()),
+        ("MDF_REFUSED_PADDING", Refusal::Padding.number()),
         ("MDF_EDITION_410", Edition::Mdf410.number()),
         ("MDF_EDITION_420", Edition::Mdf420.number()),
     ];
@@ -89,6 +92,7 @@ fn lines_of_c() -> String {
 fn layouts_and_numbers_are_those_of_the_header() {
     assert_eq!(structs_of_rust() + &numbers_of_rust(), lines_of_c());
     assert_eq!((size_of::<Mode>(), offset_of!(Mode, width), offset_of!(Mode, edition)), (8, 0, 4));
+    assert_eq!((size_of::<Block>(), offset_of!(Block, excess), offset_of!(Block, reserved)), (104, 80, 88));
 }
 
 const FILL: u8 = 0xa5;

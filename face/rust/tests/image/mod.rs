@@ -50,6 +50,16 @@ impl Image {
         self.bytes[block as usize + 16..][..8].copy_from_slice(&links.to_le_bytes());
     }
 
+    /// Sets the block length in a block's header, and nothing else.
+    pub fn set_block_len(&mut self, block: u64, length: u64) {
+        self.bytes[block as usize + 8..][..8].copy_from_slice(&length.to_le_bytes());
+    }
+
+    /// Sets the reserved bytes in a block's header.
+    pub fn set_reserved(&mut self, block: u64, reserved: u32) {
+        self.bytes[block as usize + 4..][..4].copy_from_slice(&reserved.to_le_bytes());
+    }
+
     /// A ##CC block with a name, references and the 64 bits of its values.
     pub fn named(&mut self, kind: u8, name: u64, refs: &[u64], words: &[u64]) -> u64 {
         let address = self.header(b"##CC", 64 + 8 * (refs.len() + words.len()), 4 + refs.len() as u64);

@@ -21,7 +21,7 @@ returns c =
     let b = a .self in
     let made : ℕ → ℕ → Block =
     λ low high.
-    recordFrom (b .length) (b .links) (fixedOf b) (fieldsOf b) (record { ranged = true; minimum = a .minimum; maximum = a .maximum; minword = low; maxword = high }) (b .firstref) (b .firstval) in
+    recordFrom (b .length) (b .links) (fixedOf b) (fieldsOf b) (record { ranged = true; minimum = a .minimum; maximum = a .maximum; minword = low; maxword = high }) (b .firstref) (b .firstval) (b .reserved) (b .excess) in
     ap (λ (low : ℕ). made low (c .to-bits2 .result)) (c .before .to-bits .ensures) ∙ ap (made _) (c .to-bits2 .ensures)
 
 pub with-range-spec : {M : Type 1} → statement M

@@ -12,8 +12,10 @@ pub fn describe(image: &[u8], address: u64, limit: u32, out: &mut impl Write) ->
         Ok(visits) => writeln!(out, "accepted, visits {visits}")?,
         Err(refusal) => writeln!(out, "{refusal}")?,
     }
-    if let Ok(block) = ConversionBlock::parse(image, address) {
+    let kept = ConversionBlock::parse_kept(image, address);
+    if let Ok(block) = kept.or_else(|_| ConversionBlock::parse(image, address)) {
         print_fields(image, &block, out)?;
+        print_padding(&block, kept.is_ok(), out)?;
         print_references(image, address, out)?;
         print_values(image, address, block.cc_type, out)?;
     }
@@ -32,6 +34,20 @@ fn print_fields(image: &[u8], block: &ConversionBlock, out: &mut impl Write) -> 
     writeln!(out, "block length: {}", block.block_len)?;
     writeln!(out, "link count: {}", block.links_nr)?;
     writeln!(out, "reference count field: {}", block.cc_ref_count)?;
+    Ok(())
+}
+
+// Only where there is some. A block that can be parsed and not kept has a block length that passes the image end.
+fn print_padding(block: &ConversionBlock, kept: bool, out: &mut impl Write) -> Result<(), Stop> {
+    if block.reserved != 0 {
+        writeln!(out, "reserved bytes: {:#010x}", block.reserved)?;
+    }
+    if block.excess != 0 {
+        writeln!(out, "excess: {}", block.excess)?;
+    }
+    if !kept {
+        writeln!(out, "excess: not kept, the block length passes the image end")?;
+    }
     Ok(())
 }
 

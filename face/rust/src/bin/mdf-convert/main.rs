@@ -54,6 +54,11 @@ the number is. Where one was consulted, at ADDRESS or nested, the second line sa
   checked 2 applied 2, odd range table
   text slow\todd range table
 
+With an address alone the fields have a line more for each padding that the block has:
+
+  reserved bytes: 0x04030201    the four bytes behind its id, little-endian, if they are not zero
+  excess: 8                     by how many bytes the block length exceeds what was read; or that it passes the end of the file
+
 A number has the fewest digits that read back the same float, and from 1e16 on and below 1e-5 an exponent: 2.305843009213694e18.
 
 The unit is that of the conversion at ADDRESS, except where a value to text or a range to text (types 7 and 8) passes the value on to a nested

@@ -23,6 +23,9 @@ enum-known-self-5 c = search needs
 enum-known-self-6 : tie.Need-enum-known-self-6
 enum-known-self-6 c = search needs
 
+enum-known-self-7 : tie.Need-enum-known-self-7
+enum-known-self-7 c = search needs
+
 enum-told : tie.Need-enum-told
 enum-told c = search needs
 
@@ -38,8 +41,8 @@ enum-told-4 c = search needs
 enum-told-5 : tie.Need-enum-told-5
 enum-told-5 c = search needs
 
-enum-known-self-7 : tie.Need-enum-known-self-7
-enum-known-self-7 c = search needs
+enum-told-6 : tie.Need-enum-told-6
+enum-told-6 c = search needs
 
 returns : tie.Need-returns
 returns c = ap addressOf (sym (c .before .self .given .1))
@@ -60,7 +63,7 @@ returns-6 : tie.Need-returns-6
 returns-6 c = ap addressOf (sym (c .before .self6 .given .1))
 
 returns-7 : tie.Need-returns-7
-returns-7 c = search needs
+returns-7 c = ap addressOf (sym (c .before .self7 .given .1))
 
 returns-8 : tie.Need-returns-8
 returns-8 c = search needs
@@ -75,7 +78,10 @@ returns-11 : tie.Need-returns-11
 returns-11 c = search needs
 
 returns-12 : tie.Need-returns-12
-returns-12 c = ap addressOf (sym (c .before .self7 .given .1))
+returns-12 c = search needs
+
+returns-13 : tie.Need-returns-13
+returns-13 c = search needs
 
 pub address-spec : {M : Type 1} → statement M
 address-spec =
@@ -87,12 +93,13 @@ address-spec =
     enum-known-self-4
     enum-known-self-5
     enum-known-self-6
+    enum-known-self-7
     enum-told
     enum-told-2
     enum-told-3
     enum-told-4
     enum-told-5
-    enum-known-self-7
+    enum-told-6
     returns
     returns-2
     returns-3
@@ -104,4 +111,5 @@ address-spec =
     returns-9
     returns-10
     returns-11
-    returns-12)
+    returns-12
+    returns-13)

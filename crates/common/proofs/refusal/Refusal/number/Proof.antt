@@ -41,6 +41,9 @@ enum-told-11 c = search needs
 enum-told-12 : tie.Need-enum-told-12
 enum-told-12 c = search needs
 
+enum-told-13 : tie.Need-enum-told-13
+enum-told-13 c = search needs
+
 returns : tie.Need-returns
 returns c = ap numberOf (sym (c .enum-told .given .1))
 
@@ -77,6 +80,9 @@ returns-11 c = ap numberOf (sym (c .enum-told11 .given .1))
 returns-12 : tie.Need-returns-12
 returns-12 c = ap numberOf (sym (c .enum-told12 .given .1))
 
+returns-13 : tie.Need-returns-13
+returns-13 c = ap numberOf (sym (c .enum-told13 .given .1))
+
 pub number-spec : {M : Type 1} → statement M
 number-spec =
     tie.close
@@ -93,6 +99,7 @@ number-spec =
     enum-told-10
     enum-told-11
     enum-told-12
+    enum-told-13
     returns
     returns-2
     returns-3
@@ -104,4 +111,5 @@ number-spec =
     returns-9
     returns-10
     returns-11
-    returns-12)
+    returns-12
+    returns-13)
