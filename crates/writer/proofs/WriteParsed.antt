@@ -8,7 +8,6 @@ use mathlib.Core.List.{List, [], _∷_, _++_}
 use Prim.Native.Nat.{ℕ, _+_, _-_, _*_, _≤_, _<_}
 use native.Mathlib.Omega.{arith}
 use borrow.Author.Tests.{eqb-true, leb-false, lt-leb}
-use lib.Dec.{leb}
 use lib.ListN.{length, take, drop, length-drop}
 use lib.Seq.{length-take-le}
 use lib.Ieee.{Float, binary64, ofBits, toBits, nanBits}
@@ -18,11 +17,11 @@ use Rattle.words.proofs.Slices.{Bytes, join, two-bytes, bytes2-word16, bytes4-w
 use Rattle.floats.specs.Kept.{keptBits}
 use Rattle.floats.proofs.Kept.{own-if-plain, kept-of-read}
 use Rattle.common.specs.Header.{isConversion, conversionId}
-use Rattle.blocks.specs.Block.{fixedAt, refCount, fieldsPlace, fieldsAt, valCount, hasRange, isRanged, rangeSize, rangeAt, valuesPlace, blockEnd, blockAt, parsed}
+use Rattle.blocks.specs.Block.{fixedAt, refCount, fieldsPlace, fieldsAt, valCount, isRanged, rangeSize, rangeAt, valuesPlace, blockEnd, blockAt, parsed}
 use Rattle.blocks.specs.Place.{references, valueWords}
 use Rattle.padding.specs.Kept.{readEnd, parsedIn}
 use Rattle.padding.proofs.Keeping.{end-is, IsKept, kept-is, nothing-to-keep}
-use Rattle.writer.specs.Write.{writeSize, headerBytes, fixedBytes, fieldBytes, rangeBytes, frontBytes, blockBytes, readAsRange, throughFloats, WriteCall, writeCall, writing}
+use Rattle.writer.specs.Write.{writeSize, headerBytes, fixedBytes, fieldBytes, rangeBytes, frontBytes, blockBytes, readAsRange, throughFloats, writeCall, writing}
 use Rattle.blocks.specs.declared.Range.{Range}
 use Rattle.blocks.specs.declared.Block.{Block}
 use Rattle.blocks.specs.declared.Parsed.the-variants.{Whole}

@@ -1,6 +1,5 @@
 -- `padding::parse` meets its contract. Assumes nothing.
 use mathlib.Core.Path.{_≡_, sym, ap, _∙_}
-use mathlib.Core.Bool.{Bool}
 use Rattle.blocks.specs.Block.{parsed}
 use Rattle.blocks.specs.declared.Parsed.the-variants.{Whole}
 use Rattle.padding.specs.Kept.{keeping, parsedIn}
@@ -28,7 +27,6 @@ returns : tie.Need-returns
 unfolding parsedIn
 returns c =
     let b = c .before .before .before in
-    let a = b .before .before .before .before .args in
     rw (whole b, c .before .if1 .taken) (c .with-its-padding .ensures)
 
 returns-2 : tie.Need-returns-2
