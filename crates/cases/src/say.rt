@@ -3,11 +3,11 @@ use blocks::Block;
 use blocks::Number;
 use common::refusal::Refusal;
 use common::refusal::Word;
+use common::written::Written;
 use conversion::logic::Answer;
 use conversion::logic::Applied;
 use lines::parts::part;
 use rules::search::Searched;
-use writer::Written;
 
 // Each byte of the lent output before a call.
 pub const BEFORE: u8 = 170;

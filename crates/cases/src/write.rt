@@ -3,12 +3,12 @@ use crate::build::Memory;
 use crate::say;
 use blocks::Block;
 use blocks::Parsed;
+use common::written::Written;
 use lines::parts::byte;
 use lines::parts::room;
 use lines::parts::word;
 use lines::read::Args;
 use lines::read::arguments;
-use writer::Written;
 
 // The record of the writing cases, made by its own functions.
 fn made() -> Block {

@@ -1,3 +1,4 @@
 pub mod Headers
+pub mod Holding
 pub mod Texts
 pub mod TypeNumbers

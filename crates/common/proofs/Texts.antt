@@ -10,7 +10,7 @@ use lib.Dec.{leb, eqb}
 use lib.ListN.{length, getD, take, drop, length-take}
 use lib.Seq.{drop-cons, take-take}
 use Rattle.words.specs.Words.{word64, part}
-use Rattle.common.specs.Header.{inside, isTextBlock}
+use Rattle.common.specs.Header.{inside, textId, hasId}
 use Rattle.common.specs.Text.{untilZero, isWholeText, runAt, runOf, textBytes, cutOff, textOf, shown, TextIn}
 use Rattle.common.specs.declared.text.Text.{Text}
 use Rattle.common.specs.declared.text.Text.the-variants.{Part, NoText}
@@ -40,24 +40,25 @@ unfolding textBytes untilZero
 bytes-none img i to h = let e : to - i ≡ 0 = omega arith in rw e
 
 -- ---- the answer after each test
-module _ (img : List ℕ) (a : ℕ) where
-  pub run-other : isTextBlock img a ≡ false → runAt img a ≡ NoText
+module _ (id : ℕ) (img : List ℕ) (a : ℕ) where
+  pub run-other : hasId id img a ≡ false → runAt id img a ≡ NoText
   unfolding runAt isWholeText
   run-other t = rw t
 
-  pub run-under : isTextBlock img a ≡ true → word64 img (a + 8) < 24 → runAt img a ≡ NoText
+  pub run-under : hasId id img a ≡ true → word64 img (a + 8) < 24 → runAt id img a ≡ NoText
   unfolding runAt isWholeText
   run-under t h = simp (t, lt-leb _ _ h)
 
-  pub run-cut : isTextBlock img a ≡ true → 24 ≤ word64 img (a + 8) → length img < a + word64 img (a + 8) → runAt img a ≡ NoText
+  pub run-cut : hasId id img a ≡ true → 24 ≤ word64 img (a + 8) → length img < a + word64 img (a + 8) → runAt id img a ≡ NoText
   unfolding runAt isWholeText
   run-cut t h k = simp (t, le-leb _ _ h, lt-leb _ _ k)
 
-  pub run-whole : isTextBlock img a ≡ true → 24 ≤ word64 img (a + 8) → a + word64 img (a + 8) ≤ length img
-      → runAt img a ≡ Part (a + 24) (a + word64 img (a + 8))
+  pub run-whole : hasId id img a ≡ true → 24 ≤ word64 img (a + 8) → a + word64 img (a + 8) ≤ length img
+      → runAt id img a ≡ Part (a + 24) (a + word64 img (a + 8))
   unfolding runAt isWholeText
   run-whole t h k = simp (t, le-leb _ _ h, le-leb _ _ k)
 
+module _ (img : List ℕ) (a : ℕ) where
   pub run-nil : a ≡ 0 → runOf img a ≡ NoText
   unfolding runOf
   run-nil z = rw z
@@ -66,7 +67,7 @@ module _ (img : List ℕ) (a : ℕ) where
   unfolding runOf
   run-outside z h = simp (ne-eqb a 0 z, h)
 
-  pub run-inside : (a ≡ 0 → ⊥) → inside img a ≡ true → runOf img a ≡ runAt img a
+  pub run-inside : (a ≡ 0 → ⊥) → inside img a ≡ true → runOf img a ≡ runAt textId img a
   unfolding runOf
   run-inside z h = simp (ne-eqb a 0 z, h)
 
@@ -114,9 +115,9 @@ pub text-of-none : (img : List ℕ) (link : ℕ) → runOf img link ≡ NoText �
 unfolding textOf
 text-of-none img link e = ap (cutOff img) e
 
-pub run-at-within : (img : List ℕ) (a : ℕ) → TextIn img (runAt img a)
+pub run-at-within : (id : ℕ) (img : List ℕ) (a : ℕ) → TextIn img (runAt id img a)
 unfolding runAt isWholeText
-run-at-within img a = go (isTextBlock img a) (leb 24 (word64 img (a + 8))) (leb (a + word64 img (a + 8)) (length img)) refl refl
+run-at-within id img a = go (hasId id img a) (leb 24 (word64 img (a + 8))) (leb (a + word64 img (a + 8)) (length img)) refl refl
   where
     go : (t u v : Bool) → leb 24 (word64 img (a + 8)) ≡ u → leb (a + word64 img (a + 8)) (length img) ≡ v
         → TextIn img (cond (t && u && v) (Part (a + 24) (a + word64 img (a + 8))) NoText)
@@ -127,16 +128,17 @@ run-at-within img a = go (isTextBlock img a) (leb 24 (word64 img (a + 8))) (leb 
 
 pub run-within : (img : List ℕ) (link : ℕ) → TextIn img (runOf img link)
 unfolding runOf
-run-within img link = go (not (eqb link 0) && inside img link) (run-at-within img link)
+run-within img link = go (not (eqb link 0) && inside img link) (run-at-within textId img link)
   where
-    go : (b : Bool) → TextIn img (runAt img link) → TextIn img (cond b (runAt img link) NoText)
+    go : (b : Bool) → TextIn img (runAt textId img link) → TextIn img (cond b (runAt textId img link) NoText)
     go true h = h
     go false h = tt
 
+-- a run that is cut off lies in the image, too
+pub cut-within : (img : List ℕ) (t : Text) → TextIn img t → TextIn img (cutOff img t)
+cut-within img (Part from to) h = (omega arith, omega (arith, h .0, h .1, bytes-short img from to))
+cut-within img NoText h = tt
+
 pub text-within : (img : List ℕ) (link : ℕ) → TextIn img (textOf img link)
 unfolding textOf
-text-within img link = go (runOf img link) (run-within img link)
-  where
-    go : (t : Text) → TextIn img t → TextIn img (cutOff img t)
-    go (Part from to) h = (omega arith, omega (arith, h .0, h .1, bytes-short img from to))
-    go NoText h = tt
+text-within img link = cut-within img (runOf img link) (run-within img link)

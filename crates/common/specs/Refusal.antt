@@ -1,8 +1,8 @@
 -- The number and the address of each refusal (document 01, "What a call can say"; request [2]: "11 Width"; request [8]: "16 Edition"; request [11]:
--- "18 FewLinks"; request [6]: "23 Padding"). Assumes nothing: these are definitions.
+-- "18 FewLinks"; request [6]: "23 Padding"; request [13]: "21 ZeroByte", "22 NotTextBlock"). Assumes nothing: these are definitions.
 use Prim.Native.Nat.{ℕ}
 use Rattle.common.specs.declared.refusal.Refusal.{Refusal}
-use Rattle.common.specs.declared.refusal.Refusal.the-variants.{Outside, NotConversion, Limit, Short, Deep, Loop, Formula, Room, Count, Width, Edition, FewLinks, Padding}
+use Rattle.common.specs.declared.refusal.Refusal.the-variants.{Outside, NotConversion, Limit, Short, Deep, Loop, Formula, Room, Count, Width, Edition, FewLinks, ZeroByte, NotTextBlock, Padding}
 use Rattle.common.specs.declared.refusal.Word.{Word}
 use Rattle.common.specs.declared.refusal.Word.the-variants.{Bits, NoWord}
 
@@ -19,9 +19,11 @@ numberOf Count = 9
 numberOf Width = 11
 numberOf Edition = 16
 numberOf (FewLinks a) = 18
+numberOf ZeroByte = 21
+numberOf (NotTextBlock a) = 22
 numberOf Padding = 23
 
--- 1 to 6 and 18 also the block or link address
+-- 1 to 6, 18 and 22 also the block or link address
 abbrev pub addressOf : Refusal → Word
 addressOf (Outside a) = Bits a
 addressOf (NotConversion a) = Bits a
@@ -35,4 +37,6 @@ addressOf Count = NoWord
 addressOf Width = NoWord
 addressOf Edition = NoWord
 addressOf (FewLinks a) = Bits a
+addressOf ZeroByte = NoWord
+addressOf (NotTextBlock a) = Bits a
 addressOf Padding = NoWord

@@ -5,7 +5,7 @@ use mathlib.Core.List.{List, [], _∷_}
 use lib.Dec.{leb, eqb}
 use lib.ListN.{length}
 use Rattle.words.specs.Words.{word64, part, PartIn}
-use Rattle.common.specs.Header.{inside, isTextBlock}
+use Rattle.common.specs.Header.{inside, textId, hasId}
 use Rattle.common.specs.declared.text.Text.{Text}
 use Rattle.common.specs.declared.text.Text.the-variants.{Part, NoText}
 
@@ -14,17 +14,17 @@ unfoldable pub untilZero : List ℕ → List ℕ
 untilZero [] = []
 untilZero (b ∷ bs) = cond (eqb b 0) [] (b ∷ untilZero bs)
 
--- the block at a, whose header lies in the image, is a text block; its length is not under 24 and does not pass the image end
-unfoldable pub isWholeText : List ℕ → ℕ → Bool
-isWholeText img a = isTextBlock img a && leb 24 (word64 img (a + 8)) && leb (a + word64 img (a + 8)) (length img)
+-- the block at a, whose header lies in the image, has this id; its length is not under 24 and does not pass the image end
+unfoldable pub isWholeText : ℕ → List ℕ → ℕ → Bool
+isWholeText id img a = hasId id img a && leb 24 (word64 img (a + 8)) && leb (a + word64 img (a + 8)) (length img)
 
 -- where its text may run: from byte 24 to the block length
-unfoldable pub runAt : List ℕ → ℕ → Text
-runAt img a = cond (isWholeText img a) (Part (a + 24) (a + word64 img (a + 8))) NoText
+unfoldable pub runAt : ℕ → List ℕ → ℕ → Text
+runAt id img a = cond (isWholeText id img a) (Part (a + 24) (a + word64 img (a + 8))) NoText
 
--- where the text that a link leads to may run: zero is NIL and leads to no block
+-- where the text that a link leads to may run: zero is NIL and leads to no block, and the block of a text is a ##TX
 unfoldable pub runOf : List ℕ → ℕ → Text
-runOf img link = cond (not (eqb link 0) && inside img link) (runAt img link) NoText
+runOf img link = cond (not (eqb link 0) && inside img link) (runAt textId img link) NoText
 
 -- the text of a run: to the first zero byte, or to the run's end
 unfoldable pub textBytes : List ℕ → ℕ → ℕ → List ℕ

@@ -1,8 +1,9 @@
 // The header of a block. Carries over `BlockHeader` of common.rs.
 ghost use mathlib.Core.Path.{_≡_};
 ghost use Prim.Native.Nat.{_+_, _≤_};
-ghost use lib.ListN.{length};
-ghost use Rattle.common.specs.Header.{headerAt, inside, isConversion};
+ghost use lib.ListN.{length as lengthOf};
+ghost use Rattle.common.specs.Header.{headerAt, headerBytes, inside, isConversion};
+ghost use Rattle.words.specs.Words.{put};
 
 // The 24 bytes that every block begins with.
 pub struct Header {
@@ -35,14 +36,14 @@ impl Header {
 
     // Whether the header at `at` is a conversion's.
     pub fn is_conversion(image: &[u8], at: usize) -> bool
-        requires { ⌜ at + 24 ≤ length (now image) ⌝ }
+        requires { ⌜ at + 24 ≤ lengthOf (now image) ⌝ }
         ensures { λ r. ⌜ r ≡ isConversion (now (image .entry)) at ⌝ }
     {
         words::u32_at(image, at) == Header::CONVERSION
     }
 
     pub fn read(image: &[u8], at: usize) -> Header
-        requires { ⌜ at + 24 ≤ length (now image) ⌝ }
+        requires { ⌜ at + 24 ≤ lengthOf (now image) ⌝ }
         ensures { λ r. ⌜ r ≡ headerAt (now (image .entry)) at ⌝ }
     {
         Header {
@@ -52,4 +53,15 @@ impl Header {
             links: words::u64_at(image, at + 16),
         }
     }
+}
+
+// A header, from byte 0 of `out` on.
+pub fn put_header(out: &mut [u8], id: u32, reserved: u32, length: u64, links: u64)
+    requires { ⌜ 24 ≤ lengthOf (now out) ⌝ }
+    ensures { λ _. ⌜ now (out .exit) ≡ put (now (out .entry)) 0 (headerBytes id reserved length links) ⌝ }
+{
+    words::put_u32(out, 0, id);
+    words::put_u32(out, 4, reserved);
+    words::put_u64(out, 8, length);
+    words::put_u64(out, 16, links);
 }

@@ -3,7 +3,7 @@
 ghost use mathlib.Core.Path.{_≡_};
 ghost use Rattle.common.specs.Refusal.{numberOf, addressOf};
 
-// 1 to 6 and 18 carry the address of the block or the link. They stand first, so that the machine tells them from the others by one comparison.
+// 1 to 6, 18 and 22 carry the address of the block or the link. They stand first, so that the machine tells them from the others by one comparison.
 pub enum Refusal {
     Outside(u64),
     NotConversion(u64),
@@ -12,12 +12,14 @@ pub enum Refusal {
     Deep(u64),
     Loop(u64),
     FewLinks(u64),
+    NotTextBlock(u64),
     Formula,
     Room,
     Count,
     Width,
     Edition,
     Padding,
+    ZeroByte,
 }
 
 // A number of 64 bits, where there is one.
@@ -39,12 +41,14 @@ impl Refusal {
             Refusal::Deep(_) => 5,
             Refusal::Loop(_) => 6,
             Refusal::FewLinks(_) => 18,
+            Refusal::NotTextBlock(_) => 22,
             Refusal::Formula => 7,
             Refusal::Room => 8,
             Refusal::Count => 9,
             Refusal::Width => 11,
             Refusal::Edition => 16,
             Refusal::Padding => 23,
+            Refusal::ZeroByte => 21,
         }
     }
 
@@ -60,12 +64,14 @@ impl Refusal {
             Refusal::Deep(a) => Word::Bits(a),
             Refusal::Loop(a) => Word::Bits(a),
             Refusal::FewLinks(a) => Word::Bits(a),
+            Refusal::NotTextBlock(a) => Word::Bits(a),
             Refusal::Formula => Word::NoWord,
             Refusal::Room => Word::NoWord,
             Refusal::Count => Word::NoWord,
             Refusal::Width => Word::NoWord,
             Refusal::Edition => Word::NoWord,
             Refusal::Padding => Word::NoWord,
+            Refusal::ZeroByte => Word::NoWord,
         }
     }
 }

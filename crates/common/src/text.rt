@@ -15,13 +15,13 @@ pub enum Text {
     NoText,
 }
 
-// Where the text of the block at `at`, whose header lies in the image, may run.
-fn run_at(image: &[u8], at: usize) -> Text
+// Where the text of the block at `at` may run, whose header lies in the image, if it has this id.
+pub fn run_at(image: &[u8], at: usize, id: u32) -> Text
     requires { ⌜ at + 24 ≤ length (now image) ⌝ }
-    ensures { λ r. ⌜ r ≡ runAt (now (image .entry)) at ⌝ }
+    ensures { λ r. ⌜ r ≡ runAt id (now (image .entry)) at ⌝ }
 {
     let head = Header::read(image, at);
-    if head.id != Header::TEXT {
+    if head.id != id {
         return Text::NoText;
     }
     if head.length < 24 {
@@ -43,7 +43,7 @@ pub fn run_of(image: &[u8], link: u64) -> Text
         return Text::NoText;
     }
     if Header::is_inside(image, link) {
-        run_at(image, link as usize)
+        run_at(image, link as usize, Header::TEXT)
     } else {
         Text::NoText
     }

@@ -3,7 +3,7 @@ use mathlib.Core.Path.{_≡_, refl}
 use mathlib.Core.List.{map}
 use Rattle.words.specs.Words.{word16, word32, word64, words, links, valueAt}
 use lib.Ieee.{ofBits, toBits, ofInt, add, sub, mul, div, le, lt, eq}
-use Rattle.common.specs.Header.{inside, isConversion, isTextBlock}
+use Rattle.common.specs.Header.{inside, isConversion, hasId}
 use Rattle.common.specs.Types.{typeOf}
 use Rattle.common.specs.Text.{untilZero, isWholeText, runAt, runOf, textBytes}
 use Rattle.blocks.specs.Block.{fixedAt, fieldsAt, refCount, fieldsPlace, valCount, isRanged, valuesPlace, blockEnd, blockAt, opened, parsedForRepair, fewLinks, retired, parsed}
@@ -24,5 +24,5 @@ use Rattle.conversion.specs.Entry.{answerIn, outputAfter, settled, apply
 use Rattle.conversion.specs.Cases.{Case, blockOf, block, tx, cases, answered}
 
 pub p-cases : map (λ (c : Case). answered (c .asked)) cases ≡ map (λ (c : Case). c .wanted) cases
-unfolding cases block blockOf tx links bare twoLinks applying settled answerIn outputAfter applied bitGroups groups joined bar nameAt label stepOf lastReference keySearch firstKey rangeSearch firstRange rangeValue firstTriple holds table scan between linear rational values leadAt leadOf nestedAt checked answer walk entered walkLinks classed on references valueIn valueWordIn referenceIn wordIn seen parsed retired fewLinks parsedForRepair opened blockAt blockEnd valuesPlace isRanged valCount fieldsPlace refCount fieldsAt fixedAt runOf runAt isWholeText textBytes untilZero typeOf inside isConversion isTextBlock words valueAt word64 word32 word16 ofBits toBits ofInt add sub mul div le lt eq
+unfolding cases block blockOf tx links bare twoLinks applying settled answerIn outputAfter applied bitGroups groups joined bar nameAt label stepOf lastReference keySearch firstKey rangeSearch firstRange rangeValue firstTriple holds table scan between linear rational values leadAt leadOf nestedAt checked answer walk entered walkLinks classed on references valueIn valueWordIn referenceIn wordIn seen parsed retired fewLinks parsedForRepair opened blockAt blockEnd valuesPlace isRanged valCount fieldsPlace refCount fieldsAt fixedAt runOf runAt isWholeText textBytes untilZero typeOf inside isConversion hasId words valueAt word64 word32 word16 ofBits toBits ofInt add sub mul div le lt eq
 p-cases = refl

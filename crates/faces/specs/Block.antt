@@ -8,9 +8,9 @@ use Rattle.common.specs.Refusal.{numberOf, addressOf}
 use Rattle.blocks.specs.declared.Block.{Block}
 use Rattle.blocks.specs.declared.Parsed.{Parsed}
 use Rattle.blocks.specs.declared.Parsed.the-variants.{Whole, Refused}
-use Rattle.writer.specs.Write.{WriteCall}
-use Rattle.writer.specs.declared.Written.{Written}
-use Rattle.writer.specs.declared.Written.the-variants.{Bytes, Unwritten}
+use Rattle.common.specs.Written.{WriteCall}
+use Rattle.common.specs.declared.written.Written.{Written}
+use Rattle.common.specs.declared.written.Written.the-variants.{Bytes, Unwritten}
 use Rattle.faces.specs.Checked.{addressOr}
 use Rattle.faces.specs.declared.block.MdfBlock.{MdfBlock}
 use Rattle.faces.specs.declared.block.MdfParsed.{MdfParsed}

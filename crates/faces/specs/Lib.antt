@@ -2,3 +2,4 @@ pub mod Checked
 pub mod Applied
 pub mod Block
 pub mod Place
+pub mod Text

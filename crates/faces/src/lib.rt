@@ -4,4 +4,5 @@ pub mod applied;
 pub mod block;
 pub mod checked;
 pub mod place;
+pub mod text;
 pub mod written;

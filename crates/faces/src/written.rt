@@ -1,7 +1,7 @@
 // What writing answers as C sees it, and the record of a block that C gives.
 use crate::block::MdfBlock;
 use blocks::Block;
-use writer::Written;
+use common::written::Written;
 ghost use mathlib.Core.Path.{_≡_};
 ghost use Rattle.faces.specs.Block.{recordOf, writtenFace};
 

@@ -14,12 +14,16 @@ use Rattle.conversion.specs.Shown.{ShownIn}
 use Rattle.conversion.specs.declared.logic.Applied.{Applied}
 use Rattle.conversion.specs.declared.shown.Shown.{Shown}
 use Rattle.conversion.specs.declared.shown.Shown.the-variants.{Part, Question}
-use Rattle.writer.specs.Write.{WriteCall, writeCall}
-use Rattle.writer.specs.declared.Written.{Written}
+use Rattle.common.specs.Written.{WriteCall, writeCall}
+use Rattle.common.specs.declared.written.Written.{Written}
+use Rattle.texts.proofs.Reading.{FoundIn}
+use Rattle.texts.specs.declared.read.TextRead.{TextRead}
+use Rattle.texts.specs.declared.read.TextRead.the-variants.{Found, Unread}
 use Rattle.faces.specs.Checked.{Ordered}
 use Rattle.faces.specs.Applied.{appliedFace, face, callFace}
 use Rattle.faces.specs.Block.{writtenFace, faceWrote, writingFace}
 use Rattle.faces.specs.Place.{wordFace, unreadFace, readFace, placeFace}
+use Rattle.faces.specs.Text.{InOrder}
 use Rattle.faces.specs.declared.applied.MdfApplied.{MdfApplied}
 use Rattle.faces.specs.declared.place.MdfWord.{MdfWord}
 use Rattle.faces.specs.declared.written.MdfWritten.{MdfWritten}
@@ -36,6 +40,11 @@ faced-writing r out o m written shown = ap (λ (x : MdfWritten). faceWrote x out
 pub ordered : (img : List ℕ) (s : Shown) → ShownIn img s → Ordered s
 ordered img (Part from to) h = h .0
 ordered img Question h = tt
+
+-- the same for a text that was read
+pub in-order : (img : List ℕ) (t : TextRead) → FoundIn img t → InOrder t
+in-order img (Found id from to) h = h .0
+in-order img (Unread r) h = tt
 
 -- what a way of reading finds in a block that was parsed
 pub placed : (read : List ℕ → Block → ℕ → Word) (img : List ℕ) (a i : ℕ) (p : Parsed) (b : Block) (w : Word) (m : MdfWord) → p ≡ parsed img a → p ≡ Whole b → w ≡ read img b i → m ≡ wordFace w → m ≡ placeFace read img a i

@@ -4,4 +4,5 @@ pub mod block;
 pub mod checked;
 pub mod moded;
 pub mod place;
+pub mod text;
 pub mod written;

@@ -7,12 +7,12 @@ use crate::write::first;
 use blocks::Block;
 use blocks::Parsed;
 use common::refusal::Word;
+use common::written::Written;
 use lines::build::fill;
 use lines::build::put;
 use lines::parts::byte;
 use lines::parts::part;
 use std::num::wrapping_add_usize;
-use writer::Written;
 
 // The id ##CC.
 const CONVERSION: u64 = 0x43432323;

@@ -3,11 +3,11 @@ use crate::Memory;
 use crate::Numbers;
 use crate::say;
 use blocks::Block;
+use common::written::Written;
 use lines::build::fill;
 use lines::parts::part;
 use lines::parts::room;
 use std::num::wrapping_sub_usize;
-use writer::Written;
 
 // Each byte of the output before the call.
 const BEFORE: u8 = 170;

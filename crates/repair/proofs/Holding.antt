@@ -1,48 +1,24 @@
--- What is held of bytes by an output with room for them, and by one without; the writer holds a block's bytes so. Assumes nothing.
+-- The writer's answer and output are those of a block's bytes held. Assumes nothing.
 use mathlib.Core.Path.{_≡_, refl, sym, ap, _∙_}
 use mathlib.Core.Bool.{Bool, true, false}
-use mathlib.Core.List.{List, _++_}
-use Prim.Native.Nat.{ℕ, _-_, _≤_, _<_}
+use mathlib.Core.List.{List}
+use Prim.Native.Nat.{ℕ, _-_, _≤_}
 use native.Mathlib.Omega.{arith}
-use borrow.Author.Tests.{lt-ltb, le-ltb, ltb-true, ltb-false}
+use borrow.Author.Tests.{ltb-true, ltb-false}
 use lib.Dec.{ltb}
-use lib.ListN.{length, drop}
-use Rattle.words.proofs.Clash.{clash}
+use lib.ListN.{length}
 use Rattle.words.specs.Words.{words}
 use Rattle.words.proofs.Slices.{length-words}
-use Rattle.common.specs.declared.refusal.Refusal.the-variants.{Room}
 use Rattle.blocks.specs.Place.{references, valueWords}
 use Rattle.blocks.specs.declared.Block.{Block}
 use Rattle.blocks.specs.declared.Parsed.the-variants.{Whole}
-use Rattle.writer.specs.Write.{blockBytes, readAsRange, outputHolds, WriteCall, writeCall, writing}
-use Rattle.writer.specs.declared.Written.{Written}
-use Rattle.writer.specs.declared.Written.the-variants.{Bytes, Unwritten}
+use Rattle.common.specs.Written.{outputHolds, WriteCall, writeCall, holding}
+use Rattle.common.proofs.Holding.{none-held, all-held}
+use Rattle.writer.specs.Write.{blockBytes, readAsRange, writing}
+use Rattle.common.specs.declared.written.Written.{Written}
 use Rattle.writer.proofs.Writing.{length-block, no-room, block-written}
 use Rattle.writer.proofs.Plain.{no-excess}
-use Rattle.repair.specs.Repair.{rewritten, holding}
-
-module _ (bytes out : List ℕ) where
-  pub none-held : length out < length bytes → holding bytes out ≡ writeCall (Unwritten Room) out
-  unfolding holding
-  none-held h = rw (lt-ltb _ _ h)
-
-  pub all-held : length bytes ≤ length out → holding bytes out ≡ writeCall (Bytes (length bytes)) (bytes ++ drop (length bytes) out)
-  unfolding holding
-  all-held h = rw (le-ltb _ _ h)
-
--- what was written fits the output
-pub held-fits : (bytes out : List ℕ) (w : Written) (k : ℕ) (after : List ℕ) → writeCall w after ≡ holding bytes out → w ≡ Bytes k → k ≤ length out
-held-fits bytes out w k after made e = go (ltb (length out) (length bytes)) refl
-  where
-    go : (t : Bool) → ltb (length out) (length bytes) ≡ t → k ≤ length out
-    go true t =
-        let same : w ≡ Unwritten Room = ap (λ (c : WriteCall). c .result) (made ∙ none-held bytes out (ltb-true (length out) (length bytes) t)) in
-        clash cc
-    go false t =
-        let most = ltb-false (length out) (length bytes) t in
-        let same : w ≡ Bytes (length bytes) = ap (λ (c : WriteCall). c .result) (made ∙ all-held bytes out most) in
-        let long : k ≡ length bytes = cc in
-        omega (arith, long, most)
+use Rattle.repair.specs.Repair.{rewritten}
 
 -- a block of at most 65,535 values and without excess
 pub writing-holds : (b : Block) (refs values out : List ℕ) → length values ≤ 65535 → b .excess ≡ 0

@@ -2,19 +2,17 @@
 -- writer's form, the fields document 01 would have read, so link counts 0 to 3 become 4"). Assumes nothing: these are definitions.
 use Prim.Native.Nat.{ℕ, _+_, _-_}
 use mathlib.Core.Bool.{cond}
-use mathlib.Core.List.{List, [], _∷_, _++_}
+use mathlib.Core.List.{List, [], _∷_}
 use lib.Dec.{ltb}
-use lib.ListN.{length, drop}
+use lib.ListN.{length}
 use Rattle.common.specs.Refusal.{numberOf}
-use Rattle.common.specs.declared.refusal.Refusal.the-variants.{Room}
 use Rattle.blocks.specs.Block.{recordFrom, parsedForRepair}
 use Rattle.blocks.specs.Make.{fixedOf, fieldsOf, rangeOf}
 use Rattle.blocks.specs.Place.{references, valueWords}
 use Rattle.blocks.specs.declared.Block.{Block}
 use Rattle.blocks.specs.declared.Parsed.{Parsed}
 use Rattle.blocks.specs.declared.Parsed.the-variants.{Whole, Refused}
-use Rattle.writer.specs.Write.{writeSize, blockBytes, WriteCall, writeCall}
-use Rattle.writer.specs.declared.Written.the-variants.{Bytes, Unwritten}
+use Rattle.writer.specs.Write.{writeSize, blockBytes}
 
 -- "bad input" and a newline
 abbrev pub badInput : List ℕ
@@ -32,11 +30,6 @@ rewritten input (Refused r) = refusedLine (numberOf r)
 -- all that is printed for an input: the block at address 0, as document 01 reads it
 unfoldable pub repaired : List ℕ → List ℕ
 repaired input = cond (ltb 30000 (length input)) badInput (rewritten input (parsedForRepair input 0))
-
--- bytes in a lent output: from byte 0 on, and behind them what was there; an output too short for them stays as it was: 8
-unfoldable pub holding : List ℕ → List ℕ → WriteCall
-holding bytes out =
-    cond (ltb (length out) (length bytes)) (writeCall (Unwritten Room) out) (writeCall (Bytes (length bytes)) (bytes ++ drop (length bytes) out))
 
 -- the record that parsing gives for a repaired block: that of the block but for link count and block length, and without padding, which the repair does
 -- not keep

@@ -5,16 +5,15 @@
 use blocks::Block;
 use blocks::Parsed;
 use common::refusal::Refusal;
-use writer::Written;
+use common::written::Written;
 ghost use mathlib.Core.Path.{_≡_};
 ghost use Prim.Native.Nat.{_+_, _*_, _≤_};
 ghost use lib.ListN as ListN;
 ghost use Rattle.words.specs.Words.{words as wordsAt};
-ghost use Rattle.common.specs.Refusal.{numberOf};
 ghost use Rattle.blocks.specs.Block.{parsedForRepair};
 ghost use Rattle.blocks.specs.declared.Parsed.the-variants.{Whole};
-ghost use Rattle.writer.specs.Write.{writeCall};
-ghost use Rattle.repair.specs.Repair.{refusedLine, rewritten, repaired, holding};
+ghost use Rattle.common.specs.Written.{writeCall, holding};
+ghost use Rattle.repair.specs.Repair.{refusedLine, rewritten, repaired};
 
 // The most bytes of an input.
 const MOST: usize = 30000;

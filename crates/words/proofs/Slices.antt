@@ -6,7 +6,7 @@ use native.Mathlib.Nat.{add-assoc, mod-eq-of-lt, div-eq-of-lt, add-mul-mod-self-
 use native.Mathlib.Numerals.{add-one}
 use native.Mathlib.Omega.{arith}
 use lib.ListN.{length, getD, take, drop}
-use lib.Seq.{drop-cons, drop-drop, getD-drop, take-add}
+use lib.Seq.{drop-cons, drop-drop, drop-append-seam, getD-drop, take-add}
 use Rattle.words.specs.Words.{word16, word32, word64, words, bytes2, bytes4, bytes8, links}
 use Rattle.words.proofs.Laws.{Words64}
 
@@ -21,6 +21,10 @@ slice-join s a m n = rw (take-add, drop-drop)
 -- the same where each slice is known under another name
 pub join : (s : List ℕ) (a m n : ℕ) {xs ys : List ℕ} → xs ≡ take m (drop a s) → ys ≡ take n (drop (a + m) s) → xs ++ ys ≡ take (m + n) (drop a s)
 join s a m n e f = rw (e, f) (slice-join s a m n)
+
+-- what follows a part
+pub next : (s xs ys : List ℕ) (p q : ℕ) → drop p s ≡ xs ++ ys → p + length xs ≡ q → drop q s ≡ ys
+next s xs ys p q e f = cc (drop-drop (length xs) p s, drop-append-seam xs ys)
 
 -- a slice of two bytes
 pub two-bytes : (s : List ℕ) (at : ℕ) → at + 2 ≤ length s → getD s at 0 ∷ getD s (at + 1) 0 ∷ [] ≡ take 2 (drop at s)

@@ -10,34 +10,32 @@ use native.Mathlib.Omega.{arith}
 use borrow.Author.Tests.{leb-true, leb-false, le-leb, lt-leb, le-ltb, eq-eqb}
 use lib.Dec.{leb}
 use lib.ListN.{length, drop, length-append}
-use lib.Seq.{drop-drop, getD-drop, drop-append-seam}
+use lib.Seq.{getD-drop, drop-append-seam}
 use Rattle.words.specs.Words.{word16, word32, word64, words, valueAt, links, zeros}
 use Rattle.words.proofs.Clash.{clash}
-use Rattle.words.proofs.Laws.{word16-bytes, word32-bytes, word64-bytes, words-links, length-links, Words64}
-use Rattle.words.proofs.Slices.{word16-drop, word32-drop, word64-drop, words-drop}
+use Rattle.words.proofs.Laws.{word16-bytes, word64-bytes, words-links, length-links, Words64}
+use Rattle.words.proofs.Slices.{next, word16-drop, word64-drop, words-drop}
 use Rattle.floats.proofs.Kept.{kept-reads-back, kept-small}
 use Rattle.floats.specs.Kept.{keptBits}
-use Rattle.common.specs.Header.{headerAt, inside, isConversion, conversionId}
+use Rattle.common.specs.Header.{headerAt, inside, isConversion, conversionId, headerBytes}
 use Rattle.blocks.specs.Block.{fixedAt, refCount, fieldsPlace, fieldsAt, valCount, hasRange, isRanged, rangeSize, rangeAt, valuesPlace, blockEnd, blockAt, opened, parsedForRepair, fewLinks, retired, parsed}
 use Rattle.blocks.specs.Make.{fixedOf}
 use Rattle.blocks.specs.Place.{wordIn, referenceOf, valueWordOf, wordAt}
 use Rattle.blocks.proofs.Places.{by-place}
 use Rattle.padding.specs.Kept.{readEnd, excessAt, padded, keeping, parsedIn}
-use Rattle.writer.specs.Write.{writeSize, headerBytes, fixedBytes, fieldBytes, rangeBytes, frontBytes, blockBytes, readAsRange, writeAnswer, outputHolds, WriteCall, writeCall, writing}
+use Rattle.common.proofs.Headers.{header-drop, header-bytes}
+use Rattle.common.specs.Written.{outputHolds, WriteCall, writeCall}
+use Rattle.writer.specs.Write.{writeSize, fixedBytes, fieldBytes, rangeBytes, frontBytes, blockBytes, readAsRange, writeAnswer, writing}
 use Rattle.writer.specs.Stored.{storedFields, storedRange, stored, storedKept, Sized}
 use Rattle.writer.proofs.Writing.{length-range, length-block, answer-fits}
 use Rattle.common.specs.declared.header.Header.{Header}
 use Rattle.blocks.specs.declared.Fields.{Fields}
 use Rattle.blocks.specs.declared.Block.{Block}
 use Rattle.blocks.specs.declared.Parsed.the-variants.{Whole}
-use Rattle.writer.specs.declared.Written.{Written}
-use Rattle.writer.specs.declared.Written.the-variants.{Bytes}
+use Rattle.common.specs.declared.written.Written.{Written}
+use Rattle.common.specs.declared.written.Written.the-variants.{Bytes}
 
 -- ---- the parts of a block, read from what is left of the image from their place on
-header-drop : (s : List ℕ) (p : ℕ) → headerAt (drop p s) 0 ≡ headerAt s p
-unfolding headerAt
-header-drop s p = simp (word32-drop, word64-drop, add-zero)
-
 fixed-drop : (s : List ℕ) (p : ℕ) → fixedAt (drop p s) 0 ≡ fixedAt s p
 unfolding fixedAt
 fixed-drop s p = simp (word64-drop, add-zero)
@@ -52,16 +50,6 @@ range-drop s p true = simp (word64-drop, add-zero)
 range-drop s p false = refl
 
 -- ---- and each reads as it was written; a number's law may leave out what follows it, which is not read
-header-bytes : (reserved size count : ℕ) (rest : List ℕ) → reserved < 2 ^ 32 → size < 2 ^ 64 → count < 2 ^ 64
-    → headerAt (headerBytes reserved size count ++ rest) 0 ≡ record { id = conversionId; reserved = reserved; length = size; links = count }
-unfolding headerAt headerBytes word64 word32 word16
-header-bytes reserved size count rest g h k =
-    let all = headerBytes reserved size count ++ rest in
-    let first : word32 all 4 ≡ reserved = word32-bytes reserved [] g in
-    let second : word64 all 8 ≡ size = word64-bytes size [] h in
-    let third : word64 all 16 ≡ count = word64-bytes count [] k in
-    cc
-
 fixed-bytes : (b : Block) (rest : List ℕ) → Sized b → fixedAt (fixedBytes b ++ rest) 0 ≡ fixedOf b
 unfolding fixedAt fixedBytes word64 word32 word16
 fixed-bytes b rest h =
@@ -108,10 +96,6 @@ range-taken false refs values excess h =
     let many = leb-true 16 excess h in
     (refl, many, le-leb (24 + 8 * (4 + refs) + 8 + 8 * values + 16) (writeSize false refs values excess) (omega arith))
 
--- what follows a part
-next : (s xs ys : List ℕ) (p q : ℕ) → drop p s ≡ xs ++ ys → p + length xs ≡ q → drop q s ≡ ys
-next s xs ys p q e f = cc (drop-drop (length xs) p s, drop-append-seam xs ys)
-
 -- numbers that were written at p
 listed : (s : List ℕ) (p : ℕ) (vs ys : List ℕ) → drop p s ≡ links vs ++ ys → Words64 vs → words s p (length vs) ≡ vs
 listed s p vs ys e h = cc (add-zero p, words-drop s p 0 (length vs), words-links vs ys h)
@@ -148,13 +132,13 @@ module _ (front rest : List ℕ) (b : Block) (refs values : List ℕ) where
   abbrev fromFixed : List ℕ
   fromFixed = fixedBytes b ++ fromRefs
 
-  at-header : drop a image ≡ headerBytes (b .reserved) size (4 + n) ++ fromFixed
+  at-header : drop a image ≡ headerBytes conversionId (b .reserved) size (4 + n) ++ fromFixed
   unfolding blockBytes frontBytes
   at-header = drop-append-seam front (blockBytes b refs values ++ rest) ∙ simp append-assoc
 
   at-fixed : drop (a + 24) image ≡ fromFixed
   unfolding headerBytes
-  at-fixed = next image (headerBytes (b .reserved) size (4 + n)) fromFixed a (a + 24) at-header refl
+  at-fixed = next image (headerBytes conversionId (b .reserved) size (4 + n)) fromFixed a (a + 24) at-header refl
 
   at-refs : drop (a + 56) image ≡ fromRefs
   unfolding fixedBytes
@@ -195,7 +179,7 @@ module _ (front rest : List ℕ) (b : Block) (refs values : List ℕ) where
   module _ (sized : Sized b) (few : length values ≤ 65535) (fits : writeSize (b .ranged) (length refs) (length values) (b .excess) < 2 ^ 64) where
     header : headerAt image a ≡ record { id = conversionId; reserved = b .reserved; length = size; links = 4 + n }
     unfolding writeSize
-    header = cc (header-drop image a, at-header, header-bytes (b .reserved) size (4 + n) fromFixed (sized .reserved) fits (omega arith))
+    header = cc (header-drop image a, at-header, header-bytes conversionId (b .reserved) size (4 + n) fromFixed (omega arith) (sized .reserved) fits (omega arith))
 
     fixed : fixedAt image (a + 24) ≡ fixedOf b
     fixed = cc (fixed-drop image (a + 24), at-fixed, fixed-bytes b fromRefs sized)

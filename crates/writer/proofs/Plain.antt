@@ -6,9 +6,11 @@ use Prim.Native.Nat.{ℕ}
 use native.Mathlib.Nat.{add-zero}
 use lib.ListN as ListN
 use Rattle.blocks.specs.declared.Block.{Block}
-use Rattle.writer.specs.Write.{writeSize, headerBytes, frontBytes, blockBytes, readAsRange, writeAnswer, outputHolds, writeCall, writing}
+use Rattle.common.specs.Header.{headerBytes}
+use Rattle.common.specs.Written.{outputHolds, writeCall}
+use Rattle.writer.specs.Write.{writeSize, frontBytes, blockBytes, readAsRange, writeAnswer, writing}
 use Rattle.writer.specs.Plain.{plainSize, plainHeader, plainFront, plainBytes, plainAnswer, plainWriting}
-use Rattle.writer.specs.declared.Written.{Written}
+use Rattle.common.specs.declared.written.Written.{Written}
 
 size-is : (ranged : Bool) (refs values : ℕ) → writeSize ranged refs values 0 ≡ plainSize ranged refs values
 unfolding writeSize plainSize

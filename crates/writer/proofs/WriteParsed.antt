@@ -16,18 +16,19 @@ use Rattle.words.proofs.Laws.{Words64}
 use Rattle.words.proofs.Slices.{Bytes, join, two-bytes, bytes2-word16, bytes4-word32, bytes8-word64, links-words, length-words, word16-small, word64-small, words-small}
 use Rattle.floats.specs.Kept.{keptBits}
 use Rattle.floats.proofs.Kept.{own-if-plain, kept-of-read}
-use Rattle.common.specs.Header.{isConversion, conversionId}
+use Rattle.common.specs.Header.{isConversion, conversionId, headerBytes}
 use Rattle.blocks.specs.Block.{fixedAt, refCount, fieldsPlace, fieldsAt, valCount, isRanged, rangeSize, rangeAt, valuesPlace, blockEnd, blockAt, parsed}
 use Rattle.blocks.specs.Place.{references, valueWords}
 use Rattle.padding.specs.Kept.{readEnd, parsedIn}
 use Rattle.padding.proofs.Keeping.{end-is, IsKept, kept-is, nothing-to-keep}
-use Rattle.writer.specs.Write.{writeSize, headerBytes, fixedBytes, fieldBytes, rangeBytes, frontBytes, blockBytes, readAsRange, throughFloats, writeCall, writing}
+use Rattle.common.specs.Written.{writeCall}
+use Rattle.writer.specs.Write.{writeSize, fixedBytes, fieldBytes, rangeBytes, frontBytes, blockBytes, readAsRange, throughFloats, writing}
 use Rattle.blocks.specs.declared.Range.{Range}
 use Rattle.blocks.specs.declared.Block.{Block}
 use Rattle.blocks.specs.declared.Parsed.the-variants.{Whole}
 use Rattle.blocks.specs.Make.{rangeOf, withPadding}
 use Rattle.blocks.proofs.Opening.{parsed-is-read, parsed-whole}
-use Rattle.writer.specs.declared.Written.the-variants as written
+use Rattle.common.specs.declared.written.Written.the-variants as written
 use Rattle.writer.proofs.Writing.{length-block, block-written}
 
 -- ---- xs are the bytes of s from one place up to another
@@ -92,7 +93,7 @@ module _ (s : List ℕ) (h : Bytes s) where
     values = words s (valuesPlace s a) (valCount s a)
 
     header-part : (size count : ℕ) → size ≡ word64 s (a + 8) → count ≡ word64 s (a + 16) → word32 s a ≡ conversionId
-        → IsPart s a (a + 24) (headerBytes (word32 s (a + 4)) size count)
+        → IsPart s a (a + 24) (headerBytes conversionId (word32 s (a + 4)) size count)
     unfolding headerBytes blockEnd valuesPlace fieldsPlace
     header-part size count p q id =
         both (four conversionId a (a + 4) (sym id) refl (omega arith))

@@ -11,12 +11,14 @@ use Rattle.words.proofs.Clash.{clash}
 use Rattle.words.specs.Words.{put, links, zeros}
 use Rattle.words.proofs.Laws.{two-puts, five-puts, put-front, length-links}
 use Rattle.blocks.specs.Block.{rangeSize}
-use Rattle.writer.specs.Write.{writeSize, headerBytes, fixedBytes, fieldBytes, rangeBytes, frontBytes, blockBytes, readAsRange, writeAnswer, outputHolds, writeCall, writing}
+use Rattle.common.specs.Header.{conversionId, headerBytes}
+use Rattle.common.specs.Written.{outputHolds, writeCall}
+use Rattle.writer.specs.Write.{writeSize, fixedBytes, fieldBytes, rangeBytes, frontBytes, blockBytes, readAsRange, writeAnswer, writing}
 use Rattle.blocks.specs.declared.Block.{Block}
 use Rattle.common.specs.declared.refusal.Refusal.{Refusal}
 use Rattle.common.specs.declared.refusal.Refusal.the-variants.{Room, Count, Padding}
-use Rattle.writer.specs.declared.Written.{Written}
-use Rattle.writer.specs.declared.Written.the-variants.{Bytes, Unwritten}
+use Rattle.common.specs.declared.written.Written.{Written}
+use Rattle.common.specs.declared.written.Written.the-variants.{Bytes, Unwritten}
 
 pub length-range : (b : Block) (ranged : Bool) → ListN.length (rangeBytes b ranged) ≡ rangeSize ranged
 length-range b true = refl
@@ -26,19 +28,19 @@ pub length-front : (b : Block) (refs : List ℕ) (values length : ℕ)
     → ListN.length (frontBytes b refs values length) ≡ 64 + 8 * ListN.length refs + rangeSize (b .ranged)
 unfolding frontBytes headerBytes fixedBytes fieldBytes
 length-front b refs values length =
-    let head = headerBytes (b .reserved) length (4 + ListN.length refs) ++ fixedBytes b in
+    let head = headerBytes conversionId (b .reserved) length (4 + ListN.length refs) ++ fixedBytes b in
     let r = length-range b (b .ranged) in
     let l = length-links refs in
     simp (ListN.length-append) (omega arith)
 
 -- the front is put part by part, each at its place
 pub front-parts : (b : Block) (refs : List ℕ) (values length : ℕ) (o₀ : List ℕ) {o₁ o₂ o₃ o₄ o₅ : List ℕ}
-    → o₁ ≡ put o₀ 0 (headerBytes (b .reserved) length (4 + ListN.length refs)) → o₂ ≡ put o₁ 24 (fixedBytes b) → o₃ ≡ put o₂ 56 (links refs)
+    → o₁ ≡ put o₀ 0 (headerBytes conversionId (b .reserved) length (4 + ListN.length refs)) → o₂ ≡ put o₁ 24 (fixedBytes b) → o₃ ≡ put o₂ 56 (links refs)
     → o₄ ≡ put o₃ (56 + 8 * ListN.length refs) (fieldBytes b values) → o₅ ≡ put o₄ (56 + 8 * ListN.length refs + 8) (rangeBytes b (b .ranged))
     → o₅ ≡ put o₀ 0 (frontBytes b refs values length)
 unfolding frontBytes headerBytes fixedBytes fieldBytes
 front-parts b refs values length o₀ {o₃ = o₃} {o₄ = o₄} p q r s t =
-    let head = headerBytes (b .reserved) length (4 + ListN.length refs) in
+    let head = headerBytes conversionId (b .reserved) length (4 + ListN.length refs) in
     let fields = fieldBytes b values in
     let range = rangeBytes b (b .ranged) in
     let l = length-links refs in

@@ -10,9 +10,10 @@ use Rattle.common.specs.Header.{conversionId}
 use Rattle.common.specs.declared.refusal.Refusal.the-variants.{Room, Count}
 use Rattle.blocks.specs.Block.{rangeSize}
 use Rattle.blocks.specs.declared.Block.{Block}
-use Rattle.writer.specs.Write.{fixedBytes, fieldBytes, rangeBytes, outputHolds, WriteCall, writeCall}
-use Rattle.writer.specs.declared.Written.{Written}
-use Rattle.writer.specs.declared.Written.the-variants.{Bytes, Unwritten}
+use Rattle.common.specs.Written.{outputHolds, WriteCall, writeCall}
+use Rattle.writer.specs.Write.{fixedBytes, fieldBytes, rangeBytes}
+use Rattle.common.specs.declared.written.Written.{Written}
+use Rattle.common.specs.declared.written.Written.the-variants.{Bytes, Unwritten}
 
 -- block length of exactly what is written
 unfoldable pub plainSize : Bool → ℕ → ℕ → ℕ

@@ -7,21 +7,18 @@ use lib.Dec.{leb, ltb}
 use lib.ListN as ListN
 use lib.Ieee.{binary64, ofBits, toBits}
 use Rattle.floats.specs.Kept.{keptBits}
-use Rattle.words.specs.Words.{bytes2, bytes4, bytes8, links, zeros}
-use Rattle.common.specs.Header.{conversionId}
+use Rattle.words.specs.Words.{bytes2, bytes8, links, zeros}
+use Rattle.common.specs.Header.{conversionId, headerBytes}
+use Rattle.common.specs.Written.{outputHolds, WriteCall, writeCall}
 use Rattle.blocks.specs.Block.{rangeSize}
 use Rattle.blocks.specs.declared.Block.{Block}
 use Rattle.common.specs.declared.refusal.Refusal.the-variants.{Room, Count, Padding}
-use Rattle.writer.specs.declared.Written.{Written}
-use Rattle.writer.specs.declared.Written.the-variants.{Bytes, Unwritten}
+use Rattle.common.specs.declared.written.Written.{Written}
+use Rattle.common.specs.declared.written.Written.the-variants.{Bytes, Unwritten}
 
 -- block length of exactly what is written
 unfoldable pub writeSize : Bool → ℕ → ℕ → ℕ → ℕ
 writeSize ranged refs values excess = 64 + 8 * refs + rangeSize ranged + 8 * values + excess
-
--- id ##CC, reserved bytes, block length, link count
-unfoldable pub headerBytes : ℕ → ℕ → ℕ → List ℕ
-headerBytes reserved length links = bytes4 conversionId ++ bytes4 reserved ++ bytes8 length ++ bytes8 links
 
 unfoldable pub fixedBytes : Block → List ℕ
 fixedBytes b = bytes8 (b .name) ++ bytes8 (b .unit) ++ bytes8 (b .comment) ++ bytes8 (b .inverse)
@@ -35,10 +32,10 @@ abbrev pub rangeBytes : Block → Bool → List ℕ
 rangeBytes b true = bytes8 (keptBits (b .minimum) (b .minword)) ++ bytes8 (keptBits (b .maximum) (b .maxword))
 rangeBytes b false = []
 
--- all before the values; link count 4 + references
+-- all before the values: id ##CC, link count 4 + references
 unfoldable pub frontBytes : Block → List ℕ → ℕ → ℕ → List ℕ
 frontBytes b refs values length =
-    headerBytes (b .reserved) length (4 + ListN.length refs) ++ fixedBytes b ++ links refs ++ fieldBytes b values ++ rangeBytes b (b .ranged)
+    headerBytes conversionId (b .reserved) length (4 + ListN.length refs) ++ fixedBytes b ++ links refs ++ fieldBytes b values ++ rangeBytes b (b .ranged)
 
 -- words that were read as floats and written again: a NaN's pattern becomes the one that IEEE 754 names, any other word stays (docs/EXCEPTIONS.md)
 abbrev pub throughFloats : List ℕ → List ℕ
@@ -60,19 +57,6 @@ writeAnswer ranged refs values excess room =
     cond (ltb 65535 values) (Unwritten Count)
     (cond (readAsRange ranged excess) (Unwritten Padding)
     (cond (ltb room (writeSize ranged refs values excess)) (Unwritten Room) (Bytes (writeSize ranged refs values excess))))
-
--- a success writes the block from byte 0 and changes nothing after; a refusal leaves the output untouched
-abbrev pub outputHolds : Written → List ℕ → List ℕ → List ℕ
-outputHolds (Bytes n) block out = block ++ ListN.drop n out
-outputHolds (Unwritten r) block out = out
-
--- an answer, with what the lent output holds then
-pub record WriteCall : Type 0 where
-  pub result : Written
-  pub output : List ℕ
-
-abbrev pub writeCall : Written → List ℕ → WriteCall
-writeCall r out = record { result = r; output = out }
 
 unfoldable pub writing : Block → List ℕ → List ℕ → List ℕ → WriteCall
 writing b refs values out =

@@ -5,7 +5,9 @@
 use blocks::Block;
 use blocks::range_size;
 use common::header::Header;
+use common::header::put_header;
 use common::refusal::Refusal;
+use common::written::Written;
 ghost use mathlib.Core.Path.{_≡_};
 ghost use mathlib.Core.List.{map};
 ghost use Prim.Native.Nat.{_+_, _*_, _≤_, _<_};
@@ -13,23 +15,8 @@ ghost use lib.ListN as ListN;
 ghost use lib.Ieee.{binary64, toBits};
 ghost use Rattle.words.specs.Words.{put};
 ghost use Rattle.blocks.specs.Block.{rangeSize};
-ghost use Rattle.writer.specs.Write.{readAsRange, writeAnswer, headerBytes, fixedBytes, fieldBytes, rangeBytes, frontBytes, writeCall, writing};
-
-// How many bytes were written, or why none were.
-pub enum Written {
-    Bytes(usize),
-    Unwritten(Refusal),
-}
-
-fn put_header(out: &mut [u8], reserved: u32, length: u64, links: u64)
-    requires { ⌜ 24 ≤ ListN.length (now out) ⌝ }
-    ensures { λ _. ⌜ now (out .exit) ≡ put (now (out .entry)) 0 (headerBytes reserved length links) ⌝ }
-{
-    words::put_u32(out, 0, Header::CONVERSION);
-    words::put_u32(out, 4, reserved);
-    words::put_u64(out, 8, length);
-    words::put_u64(out, 16, links);
-}
+ghost use Rattle.common.specs.Written.{writeCall};
+ghost use Rattle.writer.specs.Write.{readAsRange, writeAnswer, fixedBytes, fieldBytes, rangeBytes, frontBytes, writing};
 
 // The most values that a block can count.
 const VALUES: usize = 65535;
@@ -76,6 +63,7 @@ fn put_front(block: Block, out: &mut [u8], refs: &[u64], values: u16, length: u6
     let place = 56 + 8 * refs.len();
     put_header(
         out,
+        Header::CONVERSION,
         block.reserved,
         length,
         Block::FIXED + (refs.len() as u64),

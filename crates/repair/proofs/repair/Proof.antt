@@ -2,12 +2,12 @@
 use mathlib.Core.Path.{_≡_, sym, ap, _∙_}
 use mathlib.Core.Logic.{⊎-elim}
 use mathlib.Core.List.{List}
-use Prim.Native.Nat.{ℕ, _≤_}
+use Prim.Native.Nat.{ℕ}
 use native.Mathlib.Omega.{arith}
-use Rattle.common.specs.Refusal.{numberOf}
 use Rattle.blocks.specs.Block.{parsedForRepair}
 use Rattle.blocks.specs.declared.Parsed.the-variants.{Whole, Refused}
-use Rattle.repair.specs.Repair.{refusedLine, holding}
+use Rattle.common.specs.Written.{holding}
+use Rattle.repair.specs.Repair.{refusedLine}
 use Rattle.repair.proofs.Reading.{refused-with, too-long, fitting}
 use borrow.Author.Needs.{needs}
 use Rattle.repair.proofs.repair.Statement.{statement}

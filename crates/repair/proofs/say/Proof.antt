@@ -1,13 +1,8 @@
 -- `repair::say` meets its contract. Assumes nothing.
-use mathlib.Core.Path.{_≡_, refl, sym, _∙_}
-use mathlib.Core.List.{List, _++_}
-use Prim.Native.Nat.{ℕ, _≤_}
-use native.Mathlib.Omega.{arith}
-use lib.ListN.{length, drop}
+use mathlib.Core.Path.{refl, sym, _∙_}
+use lib.ListN.{length}
 use lib.Seq.{take-length}
-use Rattle.writer.specs.Write.{writeCall}
-use Rattle.writer.specs.declared.Written.the-variants.{Bytes}
-use Rattle.repair.proofs.Holding.{none-held, all-held}
+use Rattle.common.proofs.Holding.{none-held, all-held}
 use borrow.Author.Needs.{needs}
 use Rattle.repair.proofs.say.Statement.{statement}
 use Rattle.repair.proofs.say.Tie as tie

@@ -2,7 +2,7 @@
 use mathlib.Core.Path.{sym}
 use native.Mathlib.Omega.{arith}
 use lib.Seq.{length-take-le}
-use Rattle.repair.proofs.Holding.{held-fits}
+use Rattle.common.proofs.Holding.{held}
 use borrow.Author.Needs.{needs}
 use Rattle.repair_block.proofs.main.Statement.{statement}
 use Rattle.repair_block.proofs.main.Tie as tie
@@ -34,7 +34,8 @@ enum-known-k c = search needs
 array-share-prefix-out : tie.Need-array-share-prefix-out
 array-share-prefix-out c =
     let k = c .before in
-    omega (arith, held-fits _ _ _ _ _ (k .before .before .before .repair .ensures) (k .k .given .1))
+    let h = held _ _ _ _ _ (k .before .before .before .repair .ensures) (k .k .given .1) in
+    omega (arith, h .fits)
 
 slice-aggregate-write-all : tie.Need-slice-aggregate-write-all
 slice-aggregate-write-all c = sym (length-take-le _ _ (array-share-prefix-out (c .before)))

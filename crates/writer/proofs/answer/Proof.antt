@@ -4,7 +4,7 @@ use mathlib.Core.Bool.{false}
 use Prim.Native.Nat.{_+_, _*_, _≤_}
 use native.Mathlib.Omega.{arith}
 use Rattle.writer.specs.Write.{writeSize, readAsRange}
-use Rattle.writer.specs.declared.Written.the-variants.{Bytes}
+use Rattle.common.specs.declared.written.Written.the-variants.{Bytes}
 use Rattle.writer.proofs.Writing.{too-many, no-range, no-room, enough}
 use borrow.Author.Needs.{needs}
 use Rattle.writer.proofs.answer.Statement.{statement}

@@ -6,7 +6,7 @@ use native.Mathlib.Omega.{arith}
 use borrow.Author.Tests.{eq-eqb, ne-eqb}
 use denote.Ref.{now}
 use Rattle.words.specs.Words.{word32, word64}
-use Rattle.common.specs.Header.{headerAt, isTextBlock}
+use Rattle.common.specs.Header.{headerAt, hasId}
 use Rattle.common.specs.declared.header.Header.{Header}
 use Rattle.common.specs.declared.text.Text.the-variants.{Part}
 use Rattle.common.proofs.Texts.{run-other, run-under, run-cut, run-whole}
@@ -23,24 +23,24 @@ length-is : (c : tie.After-read) → c .read .result .length ≡ word64 (now (c 
 unfolding headerAt
 length-is c = ap (λ (h : Header). h .length) (c .read .ensures)
 
-is-text : (c : tie.Else1) → isTextBlock (now (c .before .before .before .before .args .image)) (c .before .before .before .before .args .at) ≡ true
-unfolding isTextBlock
+is-text : (c : tie.Else1) → hasId (c .before .before .before .before .args .id) (now (c .before .before .before .before .args .image)) (c .before .before .before .before .args .at) ≡ true
+unfolding hasId
 is-text c = eq-eqb _ _ (sym (id-is (c .before .before)) ∙ c .if1 .left)
 
 read-requires : tie.Need-read-requires
 read-requires c κs = search needs
 
 returns : tie.Need-returns
-unfolding isTextBlock
+unfolding hasId
 returns c =
     let a = c .before .before .before .before .args in
     let e = id-is (c .before .before) in
-    sym (run-other (now (a .image)) (a .at) (ne-eqb _ _ (λ same. c .if1 .taken (e ∙ same))))
+    sym (run-other (a .id) (now (a .image)) (a .at) (ne-eqb _ _ (λ same. c .if1 .taken (e ∙ same))))
 
 returns-2 : tie.Need-returns-2
 returns-2 c =
     let a = c .before .before .before .before .before .before .args in
-    sym (run-under (now (a .image)) (a .at) (is-text (c .before .before)) (omega (arith, length-is (c .before .before .before .before))))
+    sym (run-under (a .id) (now (a .image)) (a .at) (is-text (c .before .before)) (omega (arith, length-is (c .before .before .before .before))))
 
 sub-if3 : tie.Need-sub-if3
 sub-if3 c = search needs
@@ -49,7 +49,7 @@ returns-3 : tie.Need-returns-3
 returns-3 c =
     let a = c .before .before .before .before .before .before .before .before .args in
     let e = length-is (c .before .before .before .before .before .before) in
-    sym (run-cut (now (a .image)) (a .at) (is-text (c .before .before .before .before)) (omega arith) (omega arith))
+    sym (run-cut (a .id) (now (a .image)) (a .at) (is-text (c .before .before .before .before)) (omega arith) (omega arith))
 
 add-from : tie.Need-add-from
 add-from c = search needs
@@ -63,7 +63,7 @@ returns-4 c =
     let img = now (a .image) in
     let e = length-is (c .before .before .before .before .before .before) in
     ap (λ (n : ℕ). Part (a .at + 24) (a .at + n)) e
-    ∙ sym (run-whole img (a .at) (is-text (c .before .before .before .before)) (omega arith) (omega arith))
+    ∙ sym (run-whole (a .id) img (a .at) (is-text (c .before .before .before .before)) (omega arith) (omega arith))
 
 pub run-at-spec : {M : Type 1} → statement M
 run-at-spec =

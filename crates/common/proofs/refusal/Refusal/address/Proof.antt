@@ -26,6 +26,9 @@ enum-known-self-6 c = search needs
 enum-known-self-7 : tie.Need-enum-known-self-7
 enum-known-self-7 c = search needs
 
+enum-known-self-8 : tie.Need-enum-known-self-8
+enum-known-self-8 c = search needs
+
 enum-told : tie.Need-enum-told
 enum-told c = search needs
 
@@ -43,6 +46,9 @@ enum-told-5 c = search needs
 
 enum-told-6 : tie.Need-enum-told-6
 enum-told-6 c = search needs
+
+enum-told-7 : tie.Need-enum-told-7
+enum-told-7 c = search needs
 
 returns : tie.Need-returns
 returns c = ap addressOf (sym (c .before .self .given .1))
@@ -66,7 +72,7 @@ returns-7 : tie.Need-returns-7
 returns-7 c = ap addressOf (sym (c .before .self7 .given .1))
 
 returns-8 : tie.Need-returns-8
-returns-8 c = search needs
+returns-8 c = ap addressOf (sym (c .before .self8 .given .1))
 
 returns-9 : tie.Need-returns-9
 returns-9 c = search needs
@@ -83,6 +89,12 @@ returns-12 c = search needs
 returns-13 : tie.Need-returns-13
 returns-13 c = search needs
 
+returns-14 : tie.Need-returns-14
+returns-14 c = search needs
+
+returns-15 : tie.Need-returns-15
+returns-15 c = search needs
+
 pub address-spec : {M : Type 1} → statement M
 address-spec =
     tie.close
@@ -94,12 +106,14 @@ address-spec =
     enum-known-self-5
     enum-known-self-6
     enum-known-self-7
+    enum-known-self-8
     enum-told
     enum-told-2
     enum-told-3
     enum-told-4
     enum-told-5
     enum-told-6
+    enum-told-7
     returns
     returns-2
     returns-3
@@ -112,4 +126,6 @@ address-spec =
     returns-10
     returns-11
     returns-12
-    returns-13)
+    returns-13
+    returns-14
+    returns-15)

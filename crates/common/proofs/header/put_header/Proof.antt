@@ -1,12 +1,11 @@
--- `writer::put_header` meets its contract. Assumes nothing.
+-- `common::header::put_header` meets its contract. Assumes nothing.
 use denote.Ref.{now}
 use Rattle.words.specs.Words.{bytes4, bytes8}
 use Rattle.words.proofs.Laws.{four-puts}
-use Rattle.common.specs.Header.{conversionId}
-use Rattle.writer.specs.Write.{headerBytes}
+use Rattle.common.specs.Header.{headerBytes}
 use borrow.Author.Needs.{needs}
-use Rattle.writer.proofs.put_header.Statement.{statement}
-use Rattle.writer.proofs.put_header.Tie as tie
+use Rattle.common.proofs.header.put_header.Statement.{statement}
+use Rattle.common.proofs.header.put_header.Tie as tie
 
 put-u32-requires : tie.Need-put-u32-requires
 put-u32-requires c κs = search needs
@@ -27,7 +26,7 @@ returns : tie.Need-returns
 unfolding headerBytes
 returns c =
     let a = c .before .before .before .before .before .before .before .before .before .before .before .before .before .before .before .before .before .args in
-    four-puts (bytes4 conversionId) (bytes4 (a .reserved)) (bytes8 (a .length)) (bytes8 (a .links)) (now (a .out)) 0 (c .before .before .before .before .before .before .before .before .before .before .before .before .before .before .put-u32 .ensures)
+    four-puts (bytes4 (a .id)) (bytes4 (a .reserved)) (bytes8 (a .length)) (bytes8 (a .links)) (now (a .out)) 0 (c .before .before .before .before .before .before .before .before .before .before .before .before .before .before .put-u32 .ensures)
     (c .before .before .before .before .before .before .before .before .before .before .put-u322 .ensures) (c .before .before .before .before .before .before .put-u64 .ensures) (c .before .before .put-u642 .ensures)
 
 pub put-header-spec : {M : Type 1} → statement M
