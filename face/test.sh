@@ -53,12 +53,13 @@ compile() { # COMPILER LANGUAGE STANDARD [WORDS...]
     "$compiler" -x "$language" "-std=$standard" $warnings -Iface/c - -x none "$@"
 }
 
-# The header, included twice, and the examples, which are run, one of them on the sample image.
+# The header, included twice, and the examples, which are run, two of them on the sample image.
 header() { # COMPILER LANGUAGE STANDARD
     printf '#include "mdf_conversion.h"\n#include "mdf_conversion.h"\n' | compile "$1" "$2" "$3" -fsyntax-only
-    for example in convert rewrite; do compile "$1" "$2" "$3" "$archive" -o "target/$example" <"examples/$example.c"; done
+    for example in convert rewrite name; do compile "$1" "$2" "$3" "$archive" -o "target/$example" <"examples/$example.c"; done
     is_in_readme "$(transcript 'target/convert samples/tractor.mdf')"
     is_in_readme "$(transcript 'target/rewrite')"
+    is_in_readme "$(transcript 'target/name samples/tractor.mdf')"
     echo "face: the header and the examples are clean $3"
 }
 
@@ -122,7 +123,7 @@ c_face() {
 rust_face() {
     (cd face/rust && cargo test --offline) >"$made/cargo.log" 2>&1 || { cat "$made/cargo.log"; exit 1; }
     awk '/^test result: ok/ { passed += $4 } END { print "Rust face: " passed " tests passed, 0 failed" }' "$made/cargo.log"
-    for example in convert rewrite; do
+    for example in convert rewrite name; do
         is_in_readme "$(transcript "cargo run --quiet --offline --manifest-path face/rust/Cargo.toml --example $example")"
     done
     is_in_readme "$(shell_example)"
@@ -138,8 +139,8 @@ shell_example() {
 [ -f "$archive" ] || { echo "face: no archive at $archive; rt staticlib gateway makes it"; exit 1; }
 mkdir -p "$made"
 header_has_example
-blocks_are_from c examples/convert.c examples/rewrite.c
-blocks_are_from rust examples/convert.rs examples/rewrite.rs
+blocks_are_from c examples/convert.c examples/rewrite.c examples/name.c
+blocks_are_from rust examples/convert.rs examples/rewrite.rs examples/name.rs
 no_conversion
 no_library
 if has gcc; then c_face; else missing gcc 'the header as C11 and the C test'; fi

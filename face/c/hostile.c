@@ -1,5 +1,6 @@
 /* Images on which only a call whose work is bounded ends at all: some hundred thousand references to one text of 64 MB, or as many calls on a block
- * with an excess of 64 MB. Each call has to end, with the right answer. No time is asserted: a watchdog stops the program where a call does not end.
+ * with an excess of 64 MB, or on a text block of that length whose text ends before. Each call has to end, with the right answer. No time is
+ * asserted: a watchdog stops the program where a call does not end.
  *
  * The bound that holds for every call stands in mdf_conversion.h, "What a call can cost". */
 #define _POSIX_C_SOURCE 200809L
@@ -241,13 +242,68 @@ static void few_links_behind(void) {
     expect_refused(mdf_check(built, built_len, at, UINT32_MAX), MDF_REFUSED_FEW_LINKS, few);
 }
 
-#define READ 80             /* bytes of a block with a range and nothing else that are read */
-#define PADDED (READ + LONG) /* the same with 64 MB of excess */
+#define MEGABYTE ((size_t)1 << 20)
 
 static bool all_are(uint8_t byte, size_t from, size_t to) {
     while (from < to && built[from] == byte) from++;
     return from == to;
 }
+
+/* Reads the long text's block so often, with this block length: a text of so many bytes each time, or a refusal. */
+static void expect_text(uint64_t block_length, uint32_t refusal, uint64_t length) {
+    uint64_t start = refusal == 0 ? long_text + 24 : 0, address = refusal == 0 ? 0 : long_text;
+    bool right = true;
+    put_at(long_text + 8, block_length, 8);
+    for (int i = 0; right && i < OFTEN; i++) {
+        mdf_text t = mdf_text_read(built, built_len, long_text);
+        right = t.refusal == refusal && t.id == MDF_TX && t.address == address && t.start == start && t.length == length;
+    }
+    expect(right);
+    put_at(long_text + 8, 24 + LONG, 8);
+}
+
+static void texts_read(void) {
+    begin("the long text, read");
+    mdf_text t = mdf_text_read(built, built_len, long_text);
+    expect(t.refusal == 0 && t.id == MDF_TX && t.address == 0 && t.start == long_text + 24 && t.length == LONG);
+    begin("the block of the long text with a zero byte near its front, read");
+    for (size_t place = 0; place < 3; place++) {
+        built[long_text + 24 + place] = 0;
+        expect_text(24 + LONG, 0, place);
+        built[long_text + 24 + place] = 'x';
+    }
+    begin("the long text with a block length that no image holds, read");
+    expect_text(24 + LONG + 1, MDF_REFUSED_SHORT, 0);
+    expect_text(UINT64_C(1) << 63, MDF_REFUSED_SHORT, 0);
+    expect_text(0 - long_text + 24, MDF_REFUSED_SHORT, 0);
+    expect_text(UINT64_MAX, MDF_REFUSED_SHORT, 0);
+    begin("the long text with a block length that is too small, read");
+    expect_text(23, MDF_REFUSED_SHORT, 0);
+}
+
+/* The long text and what stands before it, written into 64 bytes: its first byte is zero. */
+static void zeros_not_written(void) {
+    begin("a text of 64 MB whose first byte is zero, written into 64 bytes");
+    mdf_written w = mdf_text_write(false, built, built_len, out, sizeof out);
+    expect(w.refusal == MDF_REFUSED_ZERO_BYTE && w.length == 0 && untouched(0));
+}
+
+static void texts_written(void) {
+    begin("a text of 64 MB, written into 64 bytes");
+    mdf_written w = mdf_text_write(false, built + long_text + 24, LONG, out, sizeof out);
+    expect(w.refusal == MDF_REFUSED_ROOM && w.length == 0 && untouched(0));
+    begin("a text of 1 MB without a zero byte, written and read");
+    size_t at = behind_texts, text = at + 24, size = 24 + MEGABYTE + 8;
+    memset(built + at, FILL, size + 64);
+    w = mdf_text_write(true, built + long_text + 24, MEGABYTE, built + at, size + 64);
+    expect(w.refusal == 0 && w.length == size && all_are('x', text, text + MEGABYTE) && all_are(0, text + MEGABYTE, at + size) &&
+           all_are(FILL, at + size, at + size + 64));
+    mdf_text t = mdf_text_read(built, at + size, at);
+    expect(t.refusal == 0 && t.id == MDF_MD && t.address == 0 && t.start == text && t.length == MEGABYTE);
+}
+
+#define READ 80             /* bytes of a block with a range and nothing else that are read */
+#define PADDED (READ + LONG) /* the same with 64 MB of excess */
 
 /* The texts are overwritten: from here on there is one block, at 0. */
 static void written_with_padding(void) {
@@ -319,6 +375,9 @@ int main(void) {
     number_to_text();
     linked_again();
     few_links_behind();
+    texts_read();
+    texts_written();
+    zeros_not_written();
     written_with_padding();
     parsed_with_padding();
     not_written_with_padding();

@@ -1,4 +1,4 @@
-/* MDF 4 conversion blocks (##CC): checked, applied to values, parsed, read by place and written.
+/* MDF 4 conversion blocks (##CC): checked, applied to values, parsed, read by place and written; text blocks (##TX and ##MD): read and written.
  *
  * Every call works on an image that is lent to it: the bytes of an MDF 4 file, or any bytes at all. An address is a place in the image, counted
  * from 0. No image, address, value or length makes a call misbehave or run on: a call answers, or it refuses with a number.
@@ -33,7 +33,8 @@
  * - It points to that many elements. It is not null and fits its type's alignment, even where the length is 0: an empty slice may point to any
  *   object of its type, such as a local variable, and nothing is read or written there.
  * - A slice has at most PTRDIFF_MAX bytes.
- * - `out` shares no byte with another slice of the call, and no other thread writes to a slice, or reads `out`, while the call runs.
+ * - `out` shares no byte with another slice of the call, and no other thread writes to a slice, or reads `out`, while the call runs. It may hold
+ *   anything: mdf_write and mdf_text_write look at some of it before they write there, but nothing depends on what they find.
  * Of the float environment: it is the one that a C program starts with, where results round to nearest and no subnormal number is flushed to zero.
  * After fesetround, or in a program that is linked with -ffast-math, a call can answer otherwise.
  *
@@ -50,6 +51,8 @@
  * - mdf_translate takes what the check and the keys take, and reads the text that it shows once, to its end.
  * - mdf_parse, mdf_parse_kept, mdf_reference and mdf_value_word take a constant, however large the block: excess bytes are not looked at.
  * - mdf_write takes what it writes, its excess with it, so that no excess costs more than the length of `out`: what does not fit is not begun.
+ * - mdf_text_read looks once at each byte of the text, up to its first zero byte; mdf_text_write takes the text's bytes twice, and what it writes.
+ *   Nothing else plays a part in either: not the length of the image, nor what the block length has behind the first zero byte.
  *
  * So `limit` and the length of `out` are the caller's brake. Choose a limit well above the nested blocks that one conversion is expected to have:
  * 4096 is generous, while 4294967295 lets an image of some kilobytes begin that many visits. Choose `out` as long as the longest text that can be shown: a
@@ -60,6 +63,7 @@
 #ifndef MDF_CONVERSION_H
 #define MDF_CONVERSION_H
 
+#include <stdbool.h>
 #include <stddef.h>
 #include <stdint.h>
 
@@ -67,21 +71,24 @@
 extern "C" {
 #endif
 
-/* Why a call refused. 1 to 6 and 18 have the address of the block or link; every other field that does not apply is 0. */
+/* Why a call refused. 1 to 6, 18 and 22 have the address of the block or link; every other field that does not apply is 0. */
 enum mdf_refusal {
-    MDF_REFUSED_OUTSIDE = 1,        /* root address + 24 is beyond the image */
-    MDF_REFUSED_NOT_CONVERSION = 2, /* the root's id is not ##CC */
-    MDF_REFUSED_LIMIT = 3,          /* a visit would exceed the visit limit */
-    MDF_REFUSED_SHORT = 4,          /* the image ends inside a ##CC block; out of mdf_parse_kept also inside its excess */
-    MDF_REFUSED_DEEP = 5,           /* a block at depth 21; the root has depth 0 */
-    MDF_REFUSED_LOOP = 6,           /* a link back to a block on the current path */
-    MDF_REFUSED_FORMULA = 7,        /* applying reaches a formula (type 3) with a number */
-    MDF_REFUSED_ROOM = 8,           /* the text or block is longer than `out` */
-    MDF_REFUSED_COUNT = 9,          /* more than 65,535 values to write */
-    MDF_REFUSED_WIDTH = 11,         /* the width of a mode is 0 or above 64 */
-    MDF_REFUSED_EDITION = 16,       /* the edition of a mode is neither 410 nor 420 */
-    MDF_REFUSED_FEW_LINKS = 18,     /* a ##CC block whose link count is below 4; the program repair_block writes it with 4 */
-    MDF_REFUSED_PADDING = 23        /* 16 or more bytes of excess to write behind a block without a range: they would be read as one */
+    MDF_REFUSED_OUTSIDE = 1,         /* root address + 24 is beyond the image; out of mdf_text_read the address + 24 */
+    MDF_REFUSED_NOT_CONVERSION = 2,  /* the root's id is not ##CC */
+    MDF_REFUSED_LIMIT = 3,           /* a visit would exceed the visit limit */
+    MDF_REFUSED_SHORT = 4,           /* the image ends inside a ##CC block; out of mdf_parse_kept also inside its excess; out of
+                                        mdf_text_read the block length is below 24 or passes the image end */
+    MDF_REFUSED_DEEP = 5,            /* a block at depth 21; the root has depth 0 */
+    MDF_REFUSED_LOOP = 6,            /* a link back to a block on the current path */
+    MDF_REFUSED_FORMULA = 7,         /* applying reaches a formula (type 3) with a number */
+    MDF_REFUSED_ROOM = 8,            /* the text or block is longer than `out` */
+    MDF_REFUSED_COUNT = 9,           /* more than 65,535 values to write */
+    MDF_REFUSED_WIDTH = 11,          /* the width of a mode is 0 or above 64 */
+    MDF_REFUSED_EDITION = 16,        /* the edition of a mode is neither 410 nor 420 */
+    MDF_REFUSED_FEW_LINKS = 18,      /* a ##CC block whose link count is below 4; the program repair_block writes it with 4 */
+    MDF_REFUSED_ZERO_BYTE = 21,      /* a zero byte in a text to write: the text would end there when it is read */
+    MDF_REFUSED_NOT_TEXT_BLOCK = 22, /* the block's id is neither ##TX nor ##MD */
+    MDF_REFUSED_PADDING = 23         /* 16 or more bytes of excess to write behind a block without a range: they would be read as one */
 };
 
 /* What an application answers. */
@@ -174,6 +181,21 @@ typedef struct {
     uint64_t length;  /* bytes written; 0 where refused */
 } mdf_written;
 
+/* The ids of a text block. */
+enum mdf_text_id {
+    MDF_TX = 0, /* ##TX, a plain text: what conversions take */
+    MDF_MD = 1  /* ##MD, metadata, a text that is XML */
+};
+
+/* The answer of reading a text block. Fields that do not apply are 0. */
+typedef struct {
+    uint32_t refusal; /* 0: there is a text */
+    uint32_t id;      /* a number of enum mdf_text_id; 0 where refused */
+    uint64_t address; /* of the refusal */
+    uint64_t start;   /* the text's first byte in the image, which is that of the block + 24; 0 where refused */
+    uint64_t length;  /* how many bytes the text has, with no zero at its end; 0 where refused */
+} mdf_text;
+
 /* Walks the conversion at `address` and every conversion under it, references in order, and begins at most `limit` visits.
  * Answers how many blocks it visited, a block that is reached twice counting twice; or the first refusal met, of 1 to 6 and 18: at the root in the
  * order 1, 2, 3, 18, 4, at a nested block 3, 18, 4, 5. A link to a block on the current path is 6, and that block is not begun again. */
@@ -259,6 +281,23 @@ mdf_word mdf_value_word(const uint8_t *image, size_t image_len, uint64_t address
  * stands in `out` from byte 0 on and the bytes behind it are as they were. After a refusal all of `out` is as it was. */
 mdf_written mdf_write(mdf_block block, const uint64_t *refs, size_t refs_len, const uint64_t *words, size_t words_len, uint8_t *out,
                       size_t out_len);
+
+/* Reads the text block at `address`, ##TX or ##MD. Address 0 is an address like any other: it is no link here.
+ * Answers which of the two ids the block has, and where its text stands in the image: from the block's byte 24 on, up to the first zero byte, or to
+ * the block length if no zero stands before that. Or it refuses, with the address: with 1 where address + 24 passes the image end, then with 22 where
+ * the id is another, then with 4 where the block length is below 24 or address + block length passes the image end.
+ * The link count and the reserved bytes are not looked at, nor is what stands behind the first zero byte. No text is copied.
+ * A ##TX gives the text that a conversion takes by a link to it. A ##MD is read here, and gives a conversion no text. */
+mdf_text mdf_text_read(const uint8_t *image, size_t image_len, uint64_t address);
+
+/* Writes a text block: ##MD if `metadata`, else ##TX, for a text of `text_len` bytes, with no zero at its end.
+ * The reserved bytes and the link count are 0. Behind the text stand one zero byte and then zeros up to a multiple of 8; the block length has all of
+ * it: 24 + text_len + 1, rounded up to a multiple of 8. An empty text gives a block of 32 bytes.
+ * Answers how many bytes it wrote, which is the block length; or refusal 21 where the text holds a zero byte, whatever the room, then 8 where `out`
+ * is shorter than the block. Afterwards the block stands in `out` from byte 0 on and the bytes behind it are as they were. After a refusal all of
+ * `out` is as it was.
+ * mdf_text_read gives the same id and the same text back, wherever the block stands in an image. */
+mdf_written mdf_text_write(bool metadata, const uint8_t *text, size_t text_len, uint8_t *out, size_t out_len);
 
 #ifdef __cplusplus
 }

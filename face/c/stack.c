@@ -14,17 +14,25 @@
 #define LIMIT 100
 
 static uint8_t image[1 << 16], out[1 << 12], area[1 << 18];
-static uint64_t root;
+static uint64_t root, text;
 static ucontext_t here, aside;
 
 /* An application that does nothing and takes no more than its return address. It hands back where its answer would stand, as the caller expects. */
 __asm__(".text\n.globl apply_no_block\napply_no_block:\n\tmovq %rdi, %rax\n\tret\n");
 mdf_applied apply_no_block(const uint8_t *image, size_t image_len, uint64_t address, uint32_t limit, uint64_t value, uint8_t *out, size_t out_len);
 
+/* Likewise for the two calls on text blocks. The answer of the second stands in registers. */
+__asm__(".globl read_no_text\nread_no_text:\n\tmovq %rdi, %rax\n\tret\n"
+        ".globl write_no_text\nwrite_no_text:\n\txorl %eax, %eax\n\txorl %edx, %edx\n\tret\n");
+mdf_text read_no_text(const uint8_t *image, size_t image_len, uint64_t address);
+mdf_written write_no_text(bool metadata, const uint8_t *text, size_t text_len, uint8_t *out, size_t out_len);
+
 /* What is measured. */
 static volatile mdf_applied answer;
 static volatile mdf_checked checked;
 static volatile mdf_shown shown;
+static volatile mdf_text text_read;
+static volatile mdf_written text_written;
 static volatile uint32_t refusal;
 
 static void nothing(void) { answer = apply_no_block(image, built_len, root, LIMIT, 1, out, sizeof out); }
@@ -49,6 +57,11 @@ static void parse_kept_and_write(void) {
 
 static void read_by_place(void) { refusal |= mdf_reference(image, built_len, root, 0).refusal | mdf_value_word(image, built_len, root, 0).refusal; }
 
+static void read_nothing(void) { text_read = read_no_text(image, built_len, text); }
+static void read_text(void) { text_read = mdf_text_read(image, built_len, text); }
+static void write_nothing(void) { text_written = write_no_text(true, image + text + 24, 8, out, sizeof out); }
+static void write_text(void) { text_written = mdf_text_write(true, image + text + 24, 8, out, sizeof out); }
+
 static void (*job)(void);
 static void run(void) { job(); }
 
@@ -67,16 +80,19 @@ static size_t used(void (*f)(void), int paint) {
     return sizeof area - clean;
 }
 
-/* The bytes below the caller's frame, the return address with them: exact for an application, and a few more or less for the others, whose caller's
- * frame is another. The first run binds what the archive calls. */
-static size_t below_caller(void (*f)(void)) {
+/* The bytes below the caller's frame, the return address with them. `idle` has the same frame and makes a call that takes no more than that address.
+ * The first run binds what the archive calls. */
+static size_t below_frame(void (*f)(void), void (*idle)(void)) {
     used(f, 0x5a);
-    size_t a = used(f, 0xa5), b = used(f, 0x5a), before = used(nothing, 0xa5) - 8;
+    size_t a = used(f, 0xa5), b = used(f, 0x5a), before = used(idle, 0xa5) - 8;
     return (a > b ? a : b) - before;
 }
 
-/* The block at the bottom: of a type, with a text that its references lead to. */
-static uint64_t bottom(uint8_t kind, uint64_t text) { return block_of(kind, text, text, text, 6, 6, ALL_BITS); }
+/* Exact for an application, and a few more or less for the others, whose caller's frame is another. */
+static size_t below_caller(void (*f)(void)) { return below_frame(f, nothing); }
+
+/* The block at the bottom: of a type, with the text that its references lead to. */
+static uint64_t bottom(uint8_t kind) { return block_of(kind, text, text, text, 6, 6, ALL_BITS); }
 
 /* The next block up: it hands the value on to `below`, by its one reference. */
 static uint64_t above(uint8_t kind, uint64_t name, uint64_t below) {
@@ -92,8 +108,9 @@ static void build(uint8_t kind, uint8_t last) {
     built = image;
     memset(image, 0, sizeof image);
     built_len = 64;
-    uint64_t name = text_of('n', 8), text = text_of('x', 8);
-    root = bottom(last, text);
+    uint64_t name = text_of('n', 8);
+    text = text_of('x', 8);
+    root = bottom(last);
     for (int level = 1; level < LEVELS; level++) root = above(kind, name, root);
 }
 
@@ -120,12 +137,16 @@ int main(void) {
     size_t by_text = most_of(10, translate), one_block = most_of(11, parse_and_write), padded = most_of(11, parse_kept_and_write);
     size_t one_word = most_of(11, read_by_place);
     build(11, 11);
-    if (!is_deepest(apply) || !is_deepest(apply_mode) || refusal != 0) {
-        printf("stack: the deepest bit groups gave no text, or a block was not written or read\n");
+    size_t reading = below_frame(read_text, read_nothing), writing = below_frame(write_text, write_nothing);
+    read_text();
+    write_text();
+    bool texts = text_read.refusal == 0 && text_read.length == 8 && text_written.refusal == 0 && text_written.length == 40;
+    if (!is_deepest(apply) || !is_deepest(apply_mode) || refusal != 0 || !texts) {
+        printf("stack: the deepest bit groups gave no text, or a block or a text was not written or read\n");
         return 1;
     }
     printf("stack below the caller at 21 levels, bytes: check %zu, type 7 %zu, type 8 %zu, bit groups %zu, in a mode %zu, type 10 shown %zu; one block %zu, "
-           "with its padding %zu, one word %zu\n",
-           walked, by_key, by_range, by_bits, in_a_mode, by_text, one_block, padded, one_word);
+           "with its padding %zu, one word %zu; one text read %zu, written %zu\n",
+           walked, by_key, by_range, by_bits, in_a_mode, by_text, one_block, padded, one_word, reading, writing);
     return 0;
 }

@@ -1,4 +1,4 @@
-/* Calls each function of mdf_conversion.h: every line of document 01's "Cases", every refusal from 1 to 9, 11, 16, 18 and 23.
+/* Calls each function of mdf_conversion.h: every line of document 01's "Cases", every refusal from 1 to 9, 11, 16, 18 and 21 to 23.
  *
  * The images are built here byte by byte. Each call gets its image in a block of the heap of exactly its length, so that valgrind sees a read past
  * its end, and an output buffer between guard bytes. After each call every byte that should be as it was is compared. */
@@ -22,6 +22,8 @@ _Static_assert(sizeof(mdf_mode) == 8 && offsetof(mdf_mode, edition) == 4, "mdf_m
 _Static_assert(sizeof(mdf_applied) == 48 && offsetof(mdf_applied, malformed) == 40, "mdf_applied has 48 bytes, and `malformed` at 40");
 _Static_assert(sizeof(mdf_block) == 104 && offsetof(mdf_block, excess) == 80 && offsetof(mdf_block, reserved) == 88,
                "mdf_block has 104 bytes, `excess` at 80 and `reserved` at 88");
+_Static_assert(sizeof(mdf_text) == 32 && offsetof(mdf_text, id) == 4 && offsetof(mdf_text, start) == 16 && offsetof(mdf_text, length) == 24,
+               "mdf_text has 32 bytes, `id` at 4, `start` at 16 and `length` at 24");
 
 static int passed, failed;
 
@@ -40,7 +42,7 @@ static bool same_double(double a, double b) {
 
 /* ---- building an image ---- */
 
-static uint8_t built[1 << 16];
+static uint8_t built[1 << 17];
 static size_t built_len;
 
 static void begin(void) {
@@ -1522,6 +1524,363 @@ static void padding_cases(void) {
     padding_is_not_applied();
 }
 
+/* ---- request [13]: text blocks ---- */
+
+#define HEADER 24     /* bytes of a block before its text */
+#define LONGEST 65536 /* bytes of the longest text */
+#define A_THIRD 21845 /* of the way from its first byte to its last */
+
+static const char ids[][5] = {"##TX", "##MD"};
+
+/* The bytes of a block that is to be written, in the request's words: "the 24-byte header with no links, text, one zero byte, then zeros up to a
+ * multiple of 8, all in its block length". Answers its address. */
+static uint64_t put_text_block(bool metadata, const uint8_t *bytes, size_t length) {
+    uint64_t address = built_len;
+    put_header(ids[metadata], 0, 0);
+    memcpy(built + built_len, bytes, length);
+    built_len += length;
+    put(0, 1);
+    while ((built_len - address) % 8 != 0) put(0, 1);
+    put_at(address + 8, built_len - address, 8);
+    return address;
+}
+
+/* The block alone, from byte 0 on. */
+static void build_text_block(bool metadata, const uint8_t *bytes, size_t length) {
+    begin();
+    built_len = 0;
+    put_text_block(metadata, bytes, length);
+}
+
+/* What was built is what is to be written. */
+static void writes_text(const char *name, bool metadata, const uint8_t *bytes, size_t length, size_t room, uint32_t refusal) {
+    uint8_t *lent = memcpy(taken(length), bytes, length), *out = lent_out(room);
+    mdf_written w = mdf_text_write(metadata, lent, length, out, room);
+    size_t written = refusal ? 0 : built_len;
+    expect(w.refusal == refusal && w.length == written && holds(out, room, built, written) && memcmp(lent, bytes, length) == 0, name);
+    free(lent);
+    give_back_out(out);
+}
+
+static bool same_text(mdf_text a, mdf_text b) {
+    return a.refusal == b.refusal && a.id == b.id && a.address == b.address && a.start == b.start && a.length == b.length;
+}
+
+static void reads_text(const char *name, uint64_t address, mdf_text wanted) {
+    uint8_t *image = lent_image();
+    expect(same_text(mdf_text_read(image, built_len, address), wanted), name);
+    give_back_image(image, name);
+}
+
+static mdf_text a_text_block(bool metadata, uint64_t address, uint64_t length) {
+    mdf_text t = {.id = metadata ? MDF_MD : MDF_TX, .start = address + HEADER, .length = length};
+    return t;
+}
+
+static void finds_text(const char *name, bool metadata, uint64_t address, uint64_t length) {
+    reads_text(name, address, a_text_block(metadata, address, length));
+}
+
+static void text_is_refused(const char *name, uint64_t address, uint32_t refusal) {
+    mdf_text wanted = {.refusal = refusal, .address = address};
+    reads_text(name, address, wanted);
+}
+
+/* Asks of a text of 0 to 17 bytes and of 65,536, with both ids. No byte is zero, and the long one has every other. */
+static void each_text(void (*ask)(bool metadata, const uint8_t *bytes, size_t length)) {
+    static uint8_t bytes[LONGEST];
+    for (size_t i = 0; i < LONGEST; i++) bytes[i] = (uint8_t)(255 - i % 255);
+    for (size_t i = 0; i <= 18; i++) {
+        ask(false, bytes, i < 18 ? i : LONGEST);
+        ask(true, bytes, i < 18 ? i : LONGEST);
+    }
+}
+
+static void is_written_as_text(bool metadata, const uint8_t *bytes, size_t length) {
+    build_text_block(metadata, bytes, length);
+    writes_text("text: just enough room", metadata, bytes, length, built_len, 0);
+    writes_text("text: one byte to spare", metadata, bytes, length, built_len + 1, 0);
+    writes_text("text: room to spare", metadata, bytes, length, built_len + 40, 0);
+    writes_text("text: 8 Room, one byte short", metadata, bytes, length, built_len - 1, MDF_REFUSED_ROOM);
+    writes_text("text: 8 Room, room for the text and no zero", metadata, bytes, length, HEADER + length, MDF_REFUSED_ROOM);
+    writes_text("text: 8 Room, room for the header", metadata, bytes, length, HEADER, MDF_REFUSED_ROOM);
+    writes_text("text: 8 Room, room for the text alone", metadata, bytes, length, length, MDF_REFUSED_ROOM);
+    writes_text("text: 8 Room, no room", metadata, bytes, length, 0, MDF_REFUSED_ROOM);
+}
+
+/* A zero at each place of a short text, and at the first, the last and two more of the long one; then nothing but zeros. */
+static void zero_is_not_written(bool metadata, const uint8_t *bytes, size_t length) {
+    static uint8_t with_zero[LONGEST];
+    build_text_block(metadata, bytes, length);
+    const size_t rooms[] = {0, HEADER, HEADER + length, built_len - 1, built_len, built_len + 40};
+    for (size_t k = 0; k < COUNT_OF(rooms); k++) {
+        for (size_t place = 0; place < length; place += length < LONGEST ? 1 : A_THIRD) {
+            memcpy(with_zero, bytes, length);
+            with_zero[place] = 0;
+            writes_text("text: 21 ZeroByte, before 8", metadata, with_zero, length, rooms[k], MDF_REFUSED_ZERO_BYTE);
+        }
+        memset(with_zero, 0, length);
+        if (length) writes_text("text: 21 ZeroByte, all are", metadata, with_zero, length, rooms[k], MDF_REFUSED_ZERO_BYTE);
+    }
+}
+
+static void is_read_back(bool metadata, const uint8_t *bytes, size_t length) {
+    static const size_t places[] = {0, 1, 64, 4099}, behind[] = {0, 1, 23, 100};
+    build_text_block(metadata, bytes, length);
+    for (size_t i = 0; i < COUNT_OF(places) * COUNT_OF(behind); i++) {
+        size_t at = places[i / 4], room = built_len + behind[i % 4];
+        uint8_t *out = lent_out(at + room); /* the image, in which the block is written */
+        mdf_written w = mdf_text_write(metadata, bytes, length, out + at, room);
+        mdf_text t = mdf_text_read(out, at + room, at);
+        expect(w.refusal == 0 && w.length == built_len && same_text(t, a_text_block(metadata, at, length)) &&
+                   memcmp(out + at + HEADER, bytes, length) == 0,
+               "text: what was written is read");
+        memset(out + at, FILL, built_len);
+        expect(holds(out, at + room, out, 0), "text: what stands around the block is as it was");
+        give_back_out(out);
+    }
+}
+
+/* Lengths that are known without counting, and one block byte by byte. */
+static void text_sizes(void) {
+    static const size_t sizes[][2] = {{0, 32}, {1, 32}, {6, 32}, {7, 32}, {8, 40}, {15, 40}, {16, 48}, {17, 48}, {LONGEST - 1, LONGEST + 24},
+                                      {LONGEST, LONGEST + 32}};
+    static const uint8_t gear[] = {'#', '#', 'M', 'D', 0, 0, 0, 0, 32,  0,   0,   0,   0, 0, 0, 0,
+                                   0,   0,   0,   0,   0, 0, 0, 0, 'G', 'e', 'a', 'r', 0, 0, 0, 0};
+    uint8_t *out = lent_out(ROOM), *bytes = memset(taken(LONGEST), 'x', LONGEST), *block_of_heap = zeros(LONGEST + 32);
+    mdf_written w = mdf_text_write(true, gear + HEADER, 4, out, ROOM);
+    expect(w.refusal == 0 && w.length == 32 && holds(out, ROOM, gear, 32), "text: a block byte by byte");
+    for (size_t i = 0; i < COUNT_OF(sizes); i++) {
+        w = mdf_text_write(false, bytes, sizes[i][0], block_of_heap, LONGEST + 32);
+        expect(w.refusal == 0 && w.length == sizes[i][1], "text: the length of a block");
+    }
+    free(block_of_heap);
+    free(bytes);
+    give_back_out(out);
+}
+
+/* Behind so many other bytes, a block with 16 bytes of text, none of them zero, with which the image ends. */
+static void open_text(bool metadata, size_t place) {
+    begin();
+    memset(built, 0xff, place);
+    built_len = place;
+    put_header(ids[metadata], HEADER + 16, 0);
+    for (int i = 0; i < 16; i++) put('x', 1);
+}
+
+/* The text ends at the first zero byte, or at the block length, whichever comes first. */
+static void text_ends(bool metadata, size_t place) {
+    open_text(metadata, place);
+    for (size_t zero = 0; zero <= 16; zero++) {
+        if (zero < 16) put_at(place + HEADER + zero, 0, 1);
+        for (size_t run = 0; run <= 16; run++) {
+            put_at(place + 8, HEADER + run, 8);
+            finds_text("text: up to a zero byte or the block length", metadata, place, zero < run ? zero : run);
+        }
+        if (zero < 16) put_at(place + HEADER + zero, 'x', 1);
+    }
+    put_at(place + 8, HEADER + 17, 8);
+    text_is_refused("text: 4 Short, one byte past the image end", place, MDF_REFUSED_SHORT);
+    put(0xff, 1);
+    finds_text("text: a block that ends with the image", metadata, place, 17);
+    put(0, 1);
+    finds_text("text: a zero byte behind the block length", metadata, place, 17);
+    put_at(place + 8, HEADER + 18, 8);
+    finds_text("text: a zero byte at the end of the block", metadata, place, 17);
+}
+
+/* Below 24 or past the image end. No sum may wrap: 2^64 - address leads back to byte 0, and a little more into the block. */
+static void text_lengths(bool metadata, size_t place) {
+    open_text(metadata, place);
+    uint64_t back = place ? 0 - (uint64_t)place : UINT64_MAX, more = place < 64 ? UINT64_MAX : back + HEADER, top = UINT64_C(1) << 63;
+    const uint64_t lengths[] = {0, 1, 8, 22, 23, HEADER + 17, HEADER + 18, 256, HEADER + 65536, (UINT64_C(1) << 32) + HEADER, top - 1, top,
+                                top + HEADER, back, back - 1, more, UINT64_MAX - HEADER, UINT64_MAX};
+    for (size_t i = 0; i < COUNT_OF(lengths); i++) {
+        put_at(place + 8, lengths[i], 8);
+        text_is_refused("text: 4 Short", place, MDF_REFUSED_SHORT);
+        put_at(place + HEADER, 0, 1);
+        text_is_refused("text: 4 Short, and a zero as the first byte", place, MDF_REFUSED_SHORT);
+        put_at(place + HEADER, 'x', 1);
+    }
+}
+
+/* The last place that a header can have, and every one behind it. */
+static void text_places(bool metadata, size_t place) {
+    begin();
+    memset(built, 0xff, place);
+    built_len = place;
+    put_header(ids[metadata], HEADER, 0);
+    finds_text("text: a header alone ends the image", metadata, place, 0);
+    text_is_refused("text: 1 Outside, 2^32 too far", place + (UINT64_C(1) << 32), MDF_REFUSED_OUTSIDE);
+    for (uint64_t near = 0; near < HEADER; near++) {
+        text_is_refused("text: 1 Outside, near the image end", built_len - near, MDF_REFUSED_OUTSIDE);
+        text_is_refused("text: 1 Outside, behind the image end", built_len + near, MDF_REFUSED_OUTSIDE);
+        text_is_refused("text: 1 Outside, the largest addresses", UINT64_MAX - near, MDF_REFUSED_OUTSIDE);
+        text_is_refused("text: 1 Outside, the middle of all addresses", (UINT64_C(1) << 63) - near, MDF_REFUSED_OUTSIDE);
+    }
+    for (size_t bytes = 0; bytes < HEADER; bytes++) {
+        built_len = place + bytes;
+        text_is_refused("text: 1 Outside, the image ends inside the header", place, MDF_REFUSED_OUTSIDE);
+    }
+}
+
+/* 22 before 4, whatever the block length; 1 before 22. */
+static void is_no_text_block(const char *name, uint64_t place) {
+    static const uint64_t lengths[] = {0, 23, HEADER, HEADER + 16, HEADER + 17, UINT64_MAX};
+    for (size_t i = 0; i < COUNT_OF(lengths); i++) {
+        put_at(place + 8, lengths[i], 8);
+        text_is_refused(name, place, MDF_REFUSED_NOT_TEXT_BLOCK);
+    }
+    size_t end = built_len;
+    built_len = place + HEADER - 1;
+    text_is_refused("text: 1 Outside, before 22", place, MDF_REFUSED_OUTSIDE);
+    built_len = end;
+}
+
+/* Ids of other blocks and of none, and each of the two with one bit changed. */
+static void text_other_ids(bool metadata, size_t place) {
+    static const char others[][5] = {"##CC", "##TY", "##MC", "##TD", "##MX", "##SI", "##tx", "##md", "##Tx", "#TX#", "TX##", "XT##", "#TX", ""};
+    open_text(metadata, place);
+    for (size_t i = 0; i < COUNT_OF(others); i++) {
+        memcpy(built + place, others[i], 4);
+        is_no_text_block("text: 22 NotTextBlock, another id", place);
+    }
+    for (int bit = 0; bit < 32; bit++) {
+        memcpy(built + place, ids[metadata], 4);
+        built[place + bit / 8] ^= (uint8_t)(1 << bit % 8);
+        is_no_text_block("text: 22 NotTextBlock, one bit of the id changed", place);
+    }
+}
+
+/* Reserved bytes, link count, and what stands behind the first zero byte. */
+static void text_not_looked_at(bool metadata, size_t place) {
+    static const uint64_t counts[] = {0, 1, 4, 255, UINT64_C(1) << 32, UINT64_C(1) << 63, UINT64_MAX};
+    open_text(metadata, place);
+    put_at(place + HEADER + 5, 0, 1);
+    for (size_t i = 0; i < COUNT_OF(counts); i++) {
+        for (size_t k = 0; k < COUNT_OF(reserved_bytes); k++) {
+            set_links(place, counts[i]);
+            put_at(place + 4, reserved_bytes[k], 4);
+            finds_text("text: link count and reserved bytes are not looked at", metadata, place, 5);
+        }
+    }
+    for (int byte = 0; byte < 256; byte++) {
+        memset(built + place + HEADER + 6, byte, 10);
+        finds_text("text: nor is what stands behind the first zero byte", metadata, place, 5);
+    }
+}
+
+/* Asks of a block at byte 0 and behind other bytes, with both ids. */
+static void each_place(void (*ask)(bool metadata, size_t place)) {
+    static const size_t places[] = {0, 1, 64, 4099};
+    for (size_t i = 0; i < COUNT_OF(places); i++) {
+        ask(false, places[i]);
+        ask(true, places[i]);
+    }
+}
+
+/* Conversions of types 10 and 7, of one reference each, which leads to the next block that is built. */
+static uint64_t to_text, to_text_by_number;
+
+static uint64_t open_text_below(bool metadata, uint64_t length) {
+    begin();
+    uint64_t below = built_len + 2 * 72;
+    to_text = of_refs(10, &below, 1);
+    to_text_by_number = of_refs(7, &below, 1);
+    put_header(ids[metadata], length, 0);
+    return below;
+}
+
+static void no_text_is_taken(const char *name) {
+    is_unchanged(name, to_text, of_text("E1"));
+    is_unchanged(name, to_text_by_number, of_unsigned(1));
+    translates(name, to_text, "E1", 0, 2);
+}
+
+/* The text that is read is the one that a conversion takes, of a ##TX; of a ##MD it takes none. */
+static void is_taken(const char *words, bool metadata, uint64_t length) {
+    uint64_t below = open_text_below(metadata, length);
+    memcpy(built + built_len, words, strlen(words));
+    built_len = below + length;
+    finds_text("text: below a conversion", metadata, below, strlen(words));
+    if (metadata) {
+        no_text_is_taken("text: a ##MD gives a conversion no text");
+    } else {
+        gives_text("text: by a text to text", to_text, of_text("E1"), words, 1, 1);
+        gives_text("text: by a value to text", to_text_by_number, of_unsigned(1), words, 1, 1);
+        translates("text: shown by a text to text", to_text, "E1", below + HEADER, strlen(words));
+    }
+}
+
+/* What reading refuses gives a conversion no text either. */
+static void is_not_taken(bool metadata) {
+    static const uint64_t lengths[] = {0, 23, HEADER + 9, UINT64_C(1) << 63, UINT64_MAX};
+    for (size_t i = 0; i < COUNT_OF(lengths); i++) {
+        uint64_t below = open_text_below(metadata, lengths[i]);
+        put(0x3132333435363738, 8);
+        text_is_refused("text: 4 Short, below a conversion", below, MDF_REFUSED_SHORT);
+        no_text_is_taken("text: 4 Short gives a conversion no text");
+        built[below + 3] = 'Y';
+        text_is_refused("text: 22 NotTextBlock, below a conversion", below, MDF_REFUSED_NOT_TEXT_BLOCK);
+        no_text_is_taken("text: 22 NotTextBlock gives a conversion no text");
+        built_len = below + HEADER - 1;
+        text_is_refused("text: 1 Outside, below a conversion", below, MDF_REFUSED_OUTSIDE);
+        no_text_is_taken("text: 1 Outside gives a conversion no text");
+    }
+}
+
+/* 0 is an address to the reader, and leads nowhere as a link. */
+static void text_at_zero(void) {
+    static const uint64_t nil = 0;
+    build_text_block(false, (const uint8_t *)"Torque", 6);
+    to_text = of_refs(10, &nil, 1);
+    to_text_by_number = of_refs(7, &nil, 1);
+    finds_text("text: at address 0", false, 0, 6);
+    no_text_is_taken("text: a link of 0 leads to no text");
+}
+
+static uint64_t add_text(bool metadata, const char *words) {
+    uint64_t address = built_len;
+    built_len += mdf_text_write(metadata, (const uint8_t *)words, strlen(words), built + built_len, sizeof built - built_len).length;
+    return address;
+}
+
+/* What was written is a name and a text to bit groups, if it is a ##TX. */
+static void written_texts_are_taken(bool metadata) {
+    static const uint64_t masks[] = {3, 12};
+    begin();
+    uint64_t gear_name = add_text(metadata, "Gear"), low = add_text(false, "Low"), pto = add_text(false, "PTO"), two = bits(2);
+    plan gear = {.kind = 7, .name = gear_name, .refs = &low, .ref_count = 1, .words = &two, .word_count = 1};
+    const uint64_t groups_of[] = {block(gear), pto};
+    uint64_t groups = of_words(11, groups_of, 2, masks, 2);
+    gives_text("text: written, and taken by bit groups", groups, of_unsigned(6), metadata ? "Low|PTO" : "Gear = Low|PTO", 2, 2);
+}
+
+static void text_block_cases(void) {
+    static const char words[] = "oil pressure low";
+    each_text(is_written_as_text);
+    each_text(zero_is_not_written);
+    each_text(is_read_back);
+    text_sizes();
+    each_place(text_ends);
+    each_place(text_lengths);
+    each_place(text_places);
+    each_place(text_other_ids);
+    each_place(text_not_looked_at);
+    for (size_t from = 0; from < sizeof words; from++) {
+        uint64_t length = HEADER + strlen(words + from);
+        for (uint64_t more = 0; more <= 9; more += 3) {
+            is_taken(words + from, false, length + more);
+            is_taken(words + from, true, length + more);
+        }
+    }
+    is_not_taken(false);
+    is_not_taken(true);
+    text_at_zero();
+    written_texts_are_taken(false);
+    written_texts_are_taken(true);
+}
+
 int main(void) {
     linear_cases();
     rounding_cases();
@@ -1563,6 +1922,7 @@ int main(void) {
     few_links_elsewhere_cases();
     few_links_order_cases();
     padding_cases();
+    text_block_cases();
     printf("C face: %d cases passed, %d failed\n", passed, failed);
     return failed ? 1 : 0;
 }

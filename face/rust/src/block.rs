@@ -288,10 +288,7 @@ impl ConversionBlock {
         let written = unsafe { raw::mdf_write(self.to_raw(), refs.0, refs.1, words.0, words.1, out.as_mut_ptr(), out.len()) };
         match written.refusal {
             0 => Ok(written.length as usize),
-            8 => Err(Refusal::Room(None)),
-            9 => Err(Refusal::Count),
-            23 => Err(Refusal::Padding),
-            number => unreachable!("the archive refuses with the number {number}"),
+            number => Err(Refusal::of_writing(number)),
         }
     }
 

@@ -1,10 +1,10 @@
-//! MDF 4 conversion blocks (##CC): checked, applied to values, parsed and written.
+//! MDF 4 conversion blocks (##CC): checked, applied to values, parsed and written; text blocks (##TX and ##MD): read and written.
 //!
 //! Every call works on an image that is lent to it: the bytes of an MDF 4 file, or any bytes at all. An address is a place in the image, counted
 //! from 0. No image, address, value or length makes a call misbehave or run on: a call answers, or it refuses with a number ([`Refusal`]).
 //!
 //! The work is done by an archive of proved code. This crate hands it slices and turns its answers into Rust's types: of the image it reads nothing
-//! by itself. It has no dependencies, needs no standard library and no heap, and keeps nothing between calls.
+//! by itself, nor does its command `mdf-convert`. It has no dependencies, needs no standard library and no heap, and keeps nothing between calls.
 //!
 //! ```
 //! use mdf_conversion::{apply, Answer, Refusal, Value};
@@ -26,6 +26,8 @@
 //!
 //! [`ConversionBlock::parse_kept`] also reads the padding of a block, so that the block can be written as long as it was.
 //!
+//! [`TextBlock`] reads and writes the texts that links lead to, such as the name of a conversion.
+//!
 //! A call computes in the float environment that a program starts with: results round to nearest, and no subnormal number is flushed to zero. In a
 //! program that has changed it, an answer can be another.
 //!
@@ -36,7 +38,8 @@
 //! the references of the block at the address. [`translate`] takes what the check and the keys take, and reads the text that it shows once. How long a
 //! text is that is not needed plays no part, nor how many references lead to it. A reference that is the same as the last nested one of its block is
 //! counted by the check and not walked again. [`ConversionBlock::parse`] and [`parse_kept`](ConversionBlock::parse_kept) take a constant, however
-//! large the block and its excess; [`write`](ConversionBlock::write) takes what it writes.
+//! large the block and its excess; [`write`](ConversionBlock::write) takes what it writes. [`TextBlock::read`] looks once at each byte of the text,
+//! up to its first zero byte, and [`TextBlock::write`] takes the text's bytes twice, and what it writes.
 //!
 //! So the limit and the length of `out` are the caller's brake. Choose a limit well above the nested blocks that one conversion is expected to have:
 //! 4096 is generous. Choose `out` as long as the longest text that can be shown: a longer one is [`Refusal::Room`] at no more cost. A call takes at
@@ -58,6 +61,7 @@ mod checking;
 mod mode;
 mod raw;
 mod refusal;
+mod text;
 mod types;
 
 pub use applying::{apply, apply_in, translate, Answer, Applied, Value};
@@ -65,4 +69,5 @@ pub use block::{ConversionBlock, PhysicalRange};
 pub use checking::check;
 pub use mode::{Edition, Mode};
 pub use refusal::{Refusal, Stopped, Visits};
+pub use text::{TextBlock, TextId};
 pub use types::{ConversionType, UnknownType};

@@ -22,7 +22,7 @@ pub struct Stopped {
 
 /// Why a call refused. A call that refuses leaves its output buffer as it was.
 ///
-/// 1 to 6 and 18 carry the address of the block or link. 7, and 8 where it comes from applying, carry the visits of both walks, and whether a
+/// 1 to 6, 18 and 22 carry the address of the block or link. 7, and 8 where it comes from applying, carry the visits of both walks, and whether a
 /// malformed table was consulted.
 ///
 /// ```
@@ -45,13 +45,14 @@ pub struct Stopped {
 #[derive(Clone, Copy, Debug, PartialEq, Eq, Hash)]
 #[non_exhaustive]
 pub enum Refusal {
-    /// 1: the root's address + 24 is beyond the image.
+    /// 1: the root's address + 24 is beyond the image. For [`TextBlock::read`](crate::TextBlock::read) the address + 24.
     Outside(u64),
     /// 2: the root's id is not ##CC.
     NotConversion(u64),
     /// 3: a visit would exceed the visit limit.
     Limit(u64),
-    /// 4: the image ends inside a ##CC block. For [`parse_kept`](crate::ConversionBlock::parse_kept) also inside its excess.
+    /// 4: the image ends inside a ##CC block. For [`parse_kept`](crate::ConversionBlock::parse_kept) also inside its excess. For
+    /// [`TextBlock::read`](crate::TextBlock::read) the block length is below 24 or passes the image end.
     Short(u64),
     /// 5: a block at depth 21; the root has depth 0.
     Deep(u64),
@@ -69,6 +70,10 @@ pub enum Refusal {
     Edition,
     /// 18: a ##CC block whose link count is below 4. The program `repair_block` writes it with 4.
     FewLinks(u64),
+    /// 21: a zero byte in a text to write. The text would end there when it is read.
+    ZeroByte,
+    /// 22: the id of a block to read as a text is neither ##TX nor ##MD.
+    NotTextBlock(u64),
     /// 23: 16 or more bytes of excess to write behind a block without a range. They would be read as one.
     Padding,
 }
@@ -90,6 +95,8 @@ impl Refusal {
             Refusal::Width => 11,
             Refusal::Edition => 16,
             Refusal::FewLinks(_) => 18,
+            Refusal::ZeroByte => 21,
+            Refusal::NotTextBlock(_) => 22,
             Refusal::Padding => 23,
         }
     }
@@ -110,11 +117,13 @@ impl Refusal {
             Refusal::Width => "Width",
             Refusal::Edition => "Edition",
             Refusal::FewLinks(_) => "FewLinks",
+            Refusal::ZeroByte => "ZeroByte",
+            Refusal::NotTextBlock(_) => "NotTextBlock",
             Refusal::Padding => "Padding",
         }
     }
 
-    /// The address of the block or link, for 1 to 6 and 18.
+    /// The address of the block or link, for 1 to 6, 18 and 22.
     #[must_use]
     pub fn address(&self) -> Option<u64> {
         match *self {
@@ -124,8 +133,11 @@ impl Refusal {
             | Refusal::Short(address)
             | Refusal::Deep(address)
             | Refusal::Loop(address)
-            | Refusal::FewLinks(address) => Some(address),
-            Refusal::Formula(_) | Refusal::Room(_) | Refusal::Count | Refusal::Width | Refusal::Edition | Refusal::Padding => None,
+            | Refusal::FewLinks(address)
+            | Refusal::NotTextBlock(address) => Some(address),
+            Refusal::Formula(_) | Refusal::Room(_) | Refusal::Count | Refusal::Width | Refusal::Edition | Refusal::ZeroByte | Refusal::Padding => {
+                None
+            }
         }
     }
 
@@ -149,7 +161,7 @@ impl Refusal {
         }
     }
 
-    /// A refusal of the mode, of the check or of parsing, by its number.
+    /// A refusal of the mode, of the check, of parsing or of reading a text, by its number.
     pub(crate) fn at(number: u32, address: u64) -> Refusal {
         match number {
             1 => Refusal::Outside(address),
@@ -161,6 +173,18 @@ impl Refusal {
             11 => Refusal::Width,
             16 => Refusal::Edition,
             18 => Refusal::FewLinks(address),
+            22 => Refusal::NotTextBlock(address),
+            _ => unreachable!("the archive refuses with the number {number}"),
+        }
+    }
+
+    /// A refusal of writing a block or a text, by its number.
+    pub(crate) fn of_writing(number: u32) -> Refusal {
+        match number {
+            8 => Refusal::Room(None),
+            9 => Refusal::Count,
+            21 => Refusal::ZeroByte,
+            23 => Refusal::Padding,
             _ => unreachable!("the archive refuses with the number {number}"),
         }
     }

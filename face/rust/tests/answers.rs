@@ -4,7 +4,9 @@
 mod image;
 
 use image::Image;
-use mdf_conversion::{apply, apply_in, check, translate, Answer, Applied, ConversionBlock, ConversionType, Edition, Mode, Refusal, Value, Visits};
+use mdf_conversion::{
+    apply, apply_in, check, translate, Answer, Applied, ConversionBlock, ConversionType, Edition, Mode, Refusal, TextBlock, Value, Visits,
+};
 
 #[test]
 fn the_text_of_an_answer() {
@@ -101,6 +103,14 @@ fn an_answer_that_is_dropped_is_warned_of() {
     ConversionBlock::parse(image, 0);
     #[expect(unused_must_use)]
     ConversionBlock::parse_kept(image, 0);
+    #[expect(unused_must_use)]
+    TextBlock::new("E1");
+    #[expect(unused_must_use)]
+    TextBlock::new_empty();
+    #[expect(unused_must_use)]
+    TextBlock::read(image, 0);
+    #[expect(unused_must_use)]
+    TextBlock::new("E1").write(&mut []);
     #[expect(unused_must_use)]
     translate(image, 0, 1, b"E1");
     #[expect(unused_must_use)]

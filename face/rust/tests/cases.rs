@@ -1,5 +1,5 @@
 //! Every line of document 01's "Cases", every refusal from 1 to 9, 11 and 18, malformed tables, widths and editions, through the safe functions. The
-//! padding of a block, and refusal 23, are those of tests/padding.rs.
+//! padding of a block, and refusal 23, are those of tests/padding.rs; text blocks, and refusals 21 and 22, those of tests/texts.rs.
 #[allow(dead_code)]
 mod image;
 
@@ -744,13 +744,16 @@ fn refusals_have_number_name_address_and_visits() {
         (Refusal::Width, "refused 11 Width", None),
         (Refusal::Edition, "refused 16 Edition", None),
         (Refusal::FewLinks(1234), "refused 18 FewLinks at 1234", None),
+        (Refusal::ZeroByte, "refused 21 ZeroByte", None),
+        (Refusal::NotTextBlock(0), "refused 22 NotTextBlock at 0", None),
         (Refusal::Padding, "refused 23 Padding", None),
     ];
-    for (number, (refusal, shown, stopped)) in (1..=9).chain([11, 16, 18, 23]).zip(all) {
+    for (number, (refusal, shown, stopped)) in (1..=9).chain([11, 16, 18, 21, 22, 23]).zip(all) {
         assert_eq!((refusal.number(), refusal.to_string().as_str(), refusal.visits()), (number, shown, stopped.map(|s| s.visits)));
         assert_eq!(refusal.malformed(), stopped.is_some_and(|s| s.malformed));
-        assert_eq!(refusal.address().is_some(), number <= 6 || number == 18);
+        assert_eq!(refusal.address().is_some(), number <= 6 || number == 18 || number == 22);
     }
     assert_eq!((Refusal::FewLinks(1234).name(), Refusal::FewLinks(1234).address()), ("FewLinks", Some(1234)));
+    assert_eq!((Refusal::NotTextBlock(1234).name(), Refusal::NotTextBlock(1234).address()), ("NotTextBlock", Some(1234)));
     assert_eq!((Refusal::Room(None).visits(), Refusal::Room(None).malformed()), (None, false));
 }

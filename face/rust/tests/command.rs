@@ -220,7 +220,7 @@ fn fields_of_a_refused_conversion() {
     assert_eq!(seat.status, 3);
     assert!(seat.out.starts_with("refused 6 Loop at 3424\ntype: 7 value to text\nname: \"Seat switch\" at 3112\n"));
     prints("2856", 3, "refused 4 Short at 2856\n");
-    prints("64 --limit 0", 3, "refused 2 NotConversion at 64\n");
+    prints("0 --limit 0", 3, "refused 2 NotConversion at 0\n");
     let groups = run(&on_sample("2488 --limit 1"));
     assert!(groups.out.starts_with("refused 3 Limit at 1664\ntype: 11 bit groups\n"));
 }
@@ -290,6 +290,8 @@ fn help() {
         "\n  checked 2 applied 2, odd range table\n  text slow\todd range table\n",
         "\n  reserved bytes: 0x04030201    the four bytes behind its id",
         "\n  excess: 8                     by how many bytes the block length exceeds what was read",
+        "shows its fields; or shows a text\n",
+        "\n  id: ##TX\n  text: \"Torque\"\n",
         "Exit status",
         "from 1e16 on and below 1e-5",
         "types 7 and 8",
@@ -512,6 +514,70 @@ fn links_that_lead_to_no_text() {
         u64::MAX
     );
     assert!(ended.out.contains(&shown), "{}", ended.out);
+}
+
+/// What an address alone prints, whatever the limit is.
+fn describes(image: &Image, address: u64, status: i32, out: &str) {
+    let file = Temporary::new("text", image);
+    for words in [vec![], vec!["--limit=0"]] {
+        let ended = run(&[&[file.path(), &address.to_string()], &words[..]].concat());
+        assert_eq!((ended.status, ended.out.as_str(), ended.error.as_str()), (status, out, ""));
+    }
+}
+
+#[test]
+fn a_text_alone() {
+    prints("136", 0, "id: ##TX\ntext: \"Torque\"\n");
+    prints("0x88", 0, "id: ##TX\ntext: \"Torque\"\n");
+    prints("1568", 0, "id: ##TX\ntext: \"°C\"\n");
+    prints("2624", 0, "id: ##MD\ntext: \"<CCcomment/>\"\n");
+    let texts = [(b"".as_slice(), ""), (b"a\\b\nc\x1b\xff\t\"d\"", "a\\\\b\\nc\\x1b\\xff\\t\\\"d\\\""), ("\u{202e}é".as_bytes(), "\\xe2\\x80\\xaeé")];
+    for (text, shown) in texts {
+        let mut image = Image::new();
+        let (plain, metadata) = (image.text(text), image.metadata(text));
+        describes(&image, plain, 0, &format!("id: ##TX\ntext: \"{shown}\"\n"));
+        describes(&image, metadata, 0, &format!("id: ##MD\ntext: \"{shown}\"\n"));
+    }
+    // Address 0 is an address, and a text may be long and end without a zero.
+    for (id, name) in [(b"##TX", "##TX"), (b"##MD", "##MD")] {
+        let mut image = Image { bytes: id.to_vec() };
+        image.bytes.extend([0; 20]);
+        image.bytes.extend([b'x'; 5000]);
+        image.set_block_len(0, 5024);
+        describes(&image, 0, 0, &format!("id: {name}\ntext: \"{}\"\n", "x".repeat(5000)));
+        image.set_link_count(0, u64::MAX);
+        image.set_reserved(0, u32::MAX);
+        image.bytes[24 + 3] = 0;
+        describes(&image, 0, 0, &format!("id: {name}\ntext: \"xxx\"\n"));
+    }
+}
+
+#[test]
+fn a_text_that_is_refused() {
+    let mut image = Image::new();
+    let blocks = [image.text(b"before"), image.metadata(b"last")];
+    let end = image.bytes.len() as u64;
+    for block in blocks {
+        for length in [0, 23, end - block + 1, 1 << 63, 0u64.wrapping_sub(block), u64::MAX] {
+            image.set_block_len(block, length);
+            describes(&image, block, 3, &format!("refused 4 Short at {block}\n"));
+        }
+        image.set_block_len(block, 24);
+        let id = if block == blocks[0] { "##TX" } else { "##MD" };
+        describes(&image, block, 0, &format!("id: {id}\ntext: \"\"\n"));
+        // Of another id it is no text, whatever its length, and no conversion either.
+        image.bytes[block as usize + 3] = b'Y';
+        describes(&image, block, 3, &format!("refused 2 NotConversion at {block}\n"));
+    }
+    for address in [end - 23, end, u64::MAX] {
+        describes(&image, address, 3, &format!("refused 1 Outside at {address}\n"));
+    }
+    // No value is converted by a text.
+    for (address, value) in [("136", "unsigned 1"), ("136", "text Torque"), ("2624", "float 0.5"), ("136", "signed -1 --limit 0 --width 4")] {
+        prints(&format!("{address} {value}"), 3, &format!("refused 2 NotConversion at {address}\nchecked 0 applied 0\n"));
+    }
+    let lines = run_with(&on_sample("136 text -"), b"a\nb\n");
+    assert_eq!((lines.status, lines.out.as_str()), (3, "refused 2 NotConversion at 136\nrefused 2 NotConversion at 136\n"));
 }
 
 #[test]

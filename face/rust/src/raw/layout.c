@@ -1,5 +1,5 @@
-/* Prints size, alignment and the place of each field of the structs of mdf_conversion.h, one struct to a line; then the numbers of refusals and
- * editions, one to a line. */
+/* Prints size, alignment and the place of each field of the structs of mdf_conversion.h, one struct to a line; then the numbers of refusals,
+ * editions and text ids, one to a line. */
 #include "mdf_conversion.h"
 
 #include <stdio.h>
@@ -69,6 +69,13 @@ int main(void) {
     FIELD(mdf_written, refusal);
     FIELD(mdf_written, length);
     END();
+    BEGIN(mdf_text);
+    FIELD(mdf_text, refusal);
+    FIELD(mdf_text, id);
+    FIELD(mdf_text, address);
+    FIELD(mdf_text, start);
+    FIELD(mdf_text, length);
+    END();
     NUMBER(MDF_REFUSED_OUTSIDE);
     NUMBER(MDF_REFUSED_NOT_CONVERSION);
     NUMBER(MDF_REFUSED_LIMIT);
@@ -81,8 +88,12 @@ int main(void) {
     NUMBER(MDF_REFUSED_WIDTH);
     NUMBER(MDF_REFUSED_EDITION);
     NUMBER(MDF_REFUSED_FEW_LINKS);
+    NUMBER(MDF_REFUSED_ZERO_BYTE);
+    NUMBER(MDF_REFUSED_NOT_TEXT_BLOCK);
     NUMBER(MDF_REFUSED_PADDING);
     NUMBER(MDF_EDITION_410);
     NUMBER(MDF_EDITION_420);
+    NUMBER(MDF_TX);
+    NUMBER(MDF_MD);
     return 0;
 }

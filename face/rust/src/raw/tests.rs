@@ -1,7 +1,7 @@
 //! The structs have the layout that a C compiler gives those of the header, the numbers are the header's, and the archive refuses what no safe
 //! function can ask for.
-use super::{Applied, Block, Checked, Mode, Parsed, Shown, Word, Written};
-use crate::{Edition, Refusal, Stopped};
+use super::{Applied, Block, Checked, Mode, Parsed, Shown, Text, Word, Written};
+use crate::{Edition, Refusal, Stopped, TextId};
 use core::mem::{align_of, offset_of, size_of};
 use std::format;
 use std::path::PathBuf;
@@ -48,6 +48,7 @@ fn structs_of_rust() -> String {
         + &line!("mdf_parsed", Parsed, refusal, address, block)
         + &line!("mdf_word", Word, refusal, found, address, word)
         + &line!("mdf_written", Written, refusal, length)
+        + &line!("mdf_text", Text, refusal, id, address, start, length)
 }
 
 fn numbers_of_rust() -> String {
@@ -64,9 +65,13 @@ fn numbers_of_rust() -> String {
         ("MDF_REFUSED_WIDTH", Refusal::Width.number()),
         ("MDF_REFUSED_EDITION", Refusal::Edition.number()),
         ("MDF_REFUSED_FEW_LINKS", Refusal::FewLinks(0).number()),
+        ("MDF_REFUSED_ZERO_BYTE", Refusal::ZeroByte.number()),
+        ("MDF_REFUSED_NOT_TEXT_BLOCK", Refusal::NotTextBlock(0).number()),
         ("MDF_REFUSED_PADDING", Refusal::Padding.number()),
         ("MDF_EDITION_410", Edition::Mdf410.number()),
         ("MDF_EDITION_420", Edition::Mdf420.number()),
+        ("MDF_TX", TextId::Tx as u32),
+        ("MDF_MD", TextId::Md as u32),
     ];
     numbers.iter().map(|(name, number)| format!("{name} {number}\n")).collect()
 }
@@ -93,6 +98,7 @@ fn layouts_and_numbers_are_those_of_the_header() {
     assert_eq!(structs_of_rust() + &numbers_of_rust(), lines_of_c());
     assert_eq!((size_of::<Mode>(), offset_of!(Mode, width), offset_of!(Mode, edition)), (8, 0, 4));
     assert_eq!((size_of::<Block>(), offset_of!(Block, excess), offset_of!(Block, reserved)), (104, 80, 88));
+    assert_eq!((size_of::<Text>(), offset_of!(Text, id), offset_of!(Text, start), offset_of!(Text, length)), (32, 4, 16, 24));
 }
 
 const FILL: u8 = 0xa5;

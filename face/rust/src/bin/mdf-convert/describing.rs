@@ -1,12 +1,35 @@
-//! A conversion checked, and its fields in words.
+//! A conversion checked, and its fields in words; or a text.
 use crate::printing::{number, quoted};
 use crate::texts::{lead, Lead};
 use crate::Stop;
-use mdf_conversion::{check, ConversionBlock, ConversionType, PhysicalRange, Refusal};
+use mdf_conversion::{check, ConversionBlock, ConversionType, PhysicalRange, Refusal, TextBlock, TextId};
 use std::io::Write;
 
-/// Prints the check's answer and, of a block that can be parsed, its fields. Answers the check's refusal, if it does not accept.
+/// Prints the text of a text block; or, of any other, the check's answer and, if it can be parsed, its fields. Answers the refusal, if there is one.
 pub fn describe(image: &[u8], address: u64, limit: u32, out: &mut impl Write) -> Result<Option<Refusal>, Stop> {
+    match TextBlock::read(image, address) {
+        Ok(block) => {
+            print_text(&block, out)?;
+            Ok(None)
+        }
+        Err(refusal @ Refusal::Short(_)) => {
+            writeln!(out, "{refusal}")?;
+            Ok(Some(refusal))
+        }
+        Err(_) => describe_conversion(image, address, limit, out),
+    }
+}
+
+fn print_text(block: &TextBlock<'_>, out: &mut impl Write) -> Result<(), Stop> {
+    let id = match block.id {
+        TextId::Tx => "##TX",
+        TextId::Md => "##MD",
+    };
+    writeln!(out, "id: {id}\ntext: {}", quoted(block.text))?;
+    Ok(())
+}
+
+fn describe_conversion(image: &[u8], address: u64, limit: u32, out: &mut impl Write) -> Result<Option<Refusal>, Stop> {
     let checked = check(image, address, limit);
     match &checked {
         Ok(visits) => writeln!(out, "accepted, visits {visits}")?,

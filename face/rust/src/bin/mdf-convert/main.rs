@@ -21,12 +21,12 @@ mdf-convert: converts values by a conversion (##CC block) of an MDF 4 file
 
   mdf-convert IMAGE-FILE ADDRESS KIND VALUE [--limit N] [--width N] [--edition E]   converts one value
   mdf-convert IMAGE-FILE ADDRESS KIND - [--limit N] [--width N] [--edition E]       converts each line of standard input
-  mdf-convert IMAGE-FILE ADDRESS [--limit N]                                        checks the conversion and shows its fields
+  mdf-convert IMAGE-FILE ADDRESS [--limit N]                                        checks the conversion and shows its fields; or shows a text
   mdf-convert --help                                                                shows this text; so does -h
   mdf-convert --version                                                             shows the version
 
   IMAGE-FILE   the file, a regular one: it is read once, as a whole
-  ADDRESS      where the conversion stands in the file: decimal, or hexadecimal after 0x
+  ADDRESS      where the conversion stands in the file, or the text: decimal, or hexadecimal after 0x
   KIND         unsigned, signed, float or text
   VALUE        a value of that kind: a whole number, decimal or hexadecimal after 0x, a signed one with - or + before it or no sign;
                a float such as 2.5, -1e3, inf or nan; or a text
@@ -59,6 +59,11 @@ With an address alone the fields have a line more for each padding that the bloc
   reserved bytes: 0x04030201    the four bytes behind its id, little-endian, if they are not zero
   excess: 8                     by how many bytes the block length exceeds what was read; or that it passes the end of the file
 
+With the address of a text alone, a ##TX or ##MD block, the two lines are
+
+  id: ##TX
+  text: \"Torque\"
+
 A number has the fewest digits that read back the same float, and from 1e16 on and below 1e-5 an exponent: 2.305843009213694e18.
 
 The unit is that of the conversion at ADDRESS, except where a value to text or a range to text (types 7 and 8) passes the value on to a nested
@@ -71,7 +76,7 @@ the direction of writing, and of what is not UTF-8, each byte is written \\xNN.
   1 Outside         the address + 24 is beyond the file
   2 NotConversion   no ##CC block stands there
   3 Limit           a visit would exceed the limit
-  4 Short           the file ends inside a ##CC block
+  4 Short           the file ends inside a ##CC block; or the length of the text's block is below 24 or passes the end of the file
   5 Deep            a block at depth 21
   6 Loop            a link back to a block on the current path
   7 Formula         applying reaches a formula with a number

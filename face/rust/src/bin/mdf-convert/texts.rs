@@ -1,6 +1,6 @@
-//! What a link leads to, for display only: names, units and comments are shown, and no answer depends on them. The archive reads the texts that
-//! answers are made of, and hands out no others.
-use mdf_conversion::{ConversionBlock, Refusal};
+//! What a link leads to: names, units and comments are shown, and no answer depends on them. The archive reads the texts, as it reads all else of the
+//! image.
+use mdf_conversion::{ConversionBlock, Refusal, TextBlock, TextId};
 
 pub enum Lead<'a> {
     Nowhere,
@@ -18,21 +18,16 @@ pub fn lead(image: &[u8], link: Option<u64>) -> Lead<'_> {
     let Some(address) = link.filter(|address| *address != 0) else {
         return Lead::Nowhere;
     };
-    match ConversionBlock::parse(image, address) {
-        Ok(_) | Err(Refusal::Short(_) | Refusal::FewLinks(_)) => Lead::Conversion,
+    match TextBlock::read(image, address) {
+        Ok(TextBlock { id: TextId::Tx, text }) => Lead::Text(text),
+        Ok(TextBlock { id: TextId::Md, text }) => Lead::Metadata(text),
         Err(Refusal::Outside(_)) => Lead::Outside,
-        Err(_) => text(image, address).unwrap_or(Lead::Other),
+        Err(Refusal::NotTextBlock(_)) if is_conversion(image, address) => Lead::Conversion,
+        Err(_) => Lead::Other,
     }
 }
 
-// Of a ##TX or ##MD block: the bytes from 24 on, to the first zero or to the block length.
-fn text(image: &[u8], address: u64) -> Option<Lead<'_>> {
-    let block = image.get(usize::try_from(address).ok()?..)?;
-    let length = u64::from_le_bytes(block.get(8..16)?.try_into().ok()?);
-    let text = block.get(24..usize::try_from(length).ok()?)?.split(|byte| *byte == 0).next()?;
-    match &block[..4] {
-        b"##TX" => Some(Lead::Text(text)),
-        b"##MD" => Some(Lead::Metadata(text)),
-        _ => None,
-    }
+// Of a block whose header lies in the image.
+fn is_conversion(image: &[u8], address: u64) -> bool {
+    !matches!(ConversionBlock::parse(image, address), Err(Refusal::NotConversion(_)))
 }
