@@ -63,7 +63,7 @@ impl Blocks {
 }
 
 /// So many calls; each answer is looked at where it is.
-fn repeated<T>(n: usize, mut call: impl FnMut() -> T) {
+pub fn repeated<T>(n: usize, mut call: impl FnMut() -> T) {
     (0..n).for_each(|_| {
         black_box(&call());
     });

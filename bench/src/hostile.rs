@@ -1,6 +1,7 @@
 // Images of few bytes that made a call run on. At size s an image has s times the references and s times the text of size 1: a call that reads
 // each text to its end grows with s * s, a bounded one with s. The visits of `groups in groups` and `deep groups` stay as they are, so that what
-// grows is the block; those of `names` and `choices` grow, and their nested blocks stay as they are. The writer has no image: its room grows.
+// grows is the block; those of `names` and `choices` grow, and their nested blocks stay as they are. A writer has no image: its room grows, or
+// the text that it writes.
 use crate::cases::linked;
 use crate::image::Image;
 use crate::ours;
@@ -21,6 +22,9 @@ enum Call {
     ParseKept,
     /// Of a block with a range, no references and no values, with so much excess.
     Write(u64),
+    ReadText,
+    /// The bytes are the text.
+    WriteText,
 }
 
 /// One call, with all that is lent to it.
@@ -66,6 +70,12 @@ pub const ALL: &[Hostile] = &[
     Hostile { name: "kept-to-end", says: "a block length up to the image end, by mdf_parse_kept", build: kept_to_end },
     Hostile { name: "huge-excess", says: "excess of 2^64 - 1 and little room, by mdf_write: refused with 8", build: huge_excess },
     Hostile { name: "written-excess", says: "as much excess as there is room for, by mdf_write", build: written_excess },
+    Hostile { name: "unended-text", says: "a ##TX of 100 KB without a zero byte, by mdf_text_read", build: unended },
+    Hostile { name: "long-unended-text", says: "a ##TX of 1 MB without a zero byte, by mdf_text_read", build: long_unended },
+    Hostile { name: "text-past-end", says: "the same with a block length of 2^64 - 1: refused with 4", build: text_past_end },
+    Hostile { name: "written-text", says: "a text of 65,536 bytes with room enough, by mdf_text_write", build: written_text },
+    Hostile { name: "text-without-room", says: "the same with no room: refused with 8", build: text_without_room },
+    Hostile { name: "text-with-zero", says: "the same with room enough and a last byte that is zero: refused with 21", build: text_with_zero },
 ];
 
 /// The image of this name at a size.
@@ -75,7 +85,12 @@ pub fn named(name: &str, size: usize) -> Asked {
 }
 
 impl Asked {
-    /// Of the image, or of the output for the writer, which has no image.
+    /// Whether it is one of the calls of text blocks, whose work is told for each byte too.
+    pub fn is_of_text_block(&self) -> bool {
+        matches!(self.call, Call::ReadText | Call::WriteText)
+    }
+
+    /// Of the image, of the text to write, or of the output for the writer of blocks.
     pub fn bytes(&self) -> usize {
         if let Call::Write(_) = self.call {
             self.room
@@ -99,6 +114,8 @@ impl Asked {
                 Call::ValueWord(i) => look(unsafe { ours::mdf_value_word(p, l, at, i) }),
                 Call::ParseKept => look(unsafe { ours::mdf_parse_kept(p, l, at) }),
                 Call::Write(excess) => look(unsafe { ours::mdf_write(ranged(excess), [].as_ptr(), 0, [].as_ptr(), 0, o, m) }),
+                Call::ReadText => look(unsafe { ours::mdf_text_read(p, l, at) }),
+                Call::WriteText => look(unsafe { ours::mdf_text_write(false, p, l, o, m) }),
             }
         }
     }
@@ -292,4 +309,45 @@ fn huge_excess(s: usize) -> Asked {
 /// A block with a range and nothing else has 80 bytes.
 fn written_excess(s: usize) -> Asked {
     writes(1_000_000 * s as u64, 80 + 1_000_000 * s)
+}
+
+/// A text without a zero byte that ends with the image.
+fn unended_text(length: usize) -> Asked {
+    let mut image = Image::new();
+    let at = image.unended(&"x".repeat(length));
+    asked(image, at, Call::ReadText)
+}
+
+fn unended(s: usize) -> Asked {
+    unended_text(100_000 * s)
+}
+
+fn long_unended(s: usize) -> Asked {
+    unended_text(1_000_000 * s)
+}
+
+fn text_past_end(s: usize) -> Asked {
+    let mut asked = long_unended(s);
+    asked.bytes[asked.address as usize + 8..][..8].fill(0xff);
+    asked
+}
+
+/// 65,536 bytes, the last of them this one, with so much room.
+fn writes_text(s: usize, last: u8, room: usize) -> Asked {
+    let mut bytes = vec![b'x'; 65_536 * s];
+    bytes[65_536 * s - 1] = last;
+    Asked { bytes, address: 0, limit: LIMIT, room, call: Call::WriteText }
+}
+
+/// The block has 32 bytes more than such a text.
+fn written_text(s: usize) -> Asked {
+    writes_text(s, b'x', 65_536 * s + 32)
+}
+
+fn text_without_room(s: usize) -> Asked {
+    writes_text(s, b'x', 0)
+}
+
+fn text_with_zero(s: usize) -> Asked {
+    writes_text(s, 0, 65_536 * s + 32)
 }

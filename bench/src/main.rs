@@ -1,6 +1,6 @@
 // The speed of one call of ours, check and application together, beside the crate's apply on a block that was resolved once, and beside its
-// parse, resolve and apply; the check beside the crate's resolve; parsing and writing one block; and how the work of a call grows on hostile
-// images. One process, the same image, the same values, release builds.
+// parse, resolve and apply; the check beside the crate's resolve; parsing and writing one block; reading and writing one text block; and how the
+// work of a call grows on hostile images. One process, the same image, the same values, release builds.
 //
 //     bench                      all of the following, one after the other
 //     bench table VALUES ROUNDS  times and goals: 1,000,000 values each and the median of 5 rounds where nothing else is said
@@ -9,6 +9,7 @@
 //     bench only SIDE CASE N     one side alone, N calls: for a profiler. SIDE is ours, resolved or whole, CASE the line of the table from 0 on
 //     bench only check IMAGE N   N checks of the image `tree` or `twice`; with `resolve` the crate's
 //     bench only block WHAT N    N calls on a block of 500 values. WHAT is parse, parse-kept, write, write-padded; the crate's from-bytes, to-bytes
+//     bench only text WHAT L N   N calls on a text block of L bytes. WHAT is read, write; the crate's read-string, to-bytes
 //     bench only hostile NAME SIZE N
 //
 // In a round the three sides run one after the other, so that what slows the machine slows all. Output buffers are not cleared. Each answer is
@@ -19,6 +20,7 @@ mod count;
 mod hostile;
 mod image;
 mod ours;
+mod texts;
 
 use cases::{Case, Input};
 use image::Image;
@@ -238,17 +240,21 @@ fn hostile_cost(name: &str, size: usize, counted: bool) -> f64 {
 fn hostile_table() -> bool {
     let counted = count::possible();
     let unit = if counted { "instructions" } else { "ns" };
-    let mut grown = 0;
+    let (mut grown, mut a_byte) = (0, Vec::new());
     println!("| hostile image | bytes | one call, {unit} | bytes at twice the size | one call, {unit} | growth | |");
     println!("|---|---|---|---|---|---|---|");
     for h in hostile::ALL {
         let bytes = [1, 2].map(|size| hostile::named(h.name, size).bytes());
         let [one, two] = [1, 2].map(|size| hostile_cost(h.name, size, counted));
+        if hostile::named(h.name, 1).is_of_text_block() {
+            a_byte.push(format!("{} {:.3}", h.name, (two - one) / (bytes[1] - bytes[0]) as f64));
+        }
         let met = two / one <= MOST_GROWTH;
         grown += !met as usize;
         let says = if met { "met" } else { "missed" };
         println!("| {}: {} | {} | {one:.0} | {} | {two:.0} | {:.2} | {says} |", h.name, h.says, bytes[0], bytes[1], two / one);
     }
+    println!("\n{unit} for each byte more of a text block: {}", a_byte.join(", "));
     println!("\nhostile images: {} of {} grow at most {MOST_GROWTH} times", hostile::ALL.len() - grown, hostile::ALL.len());
     grown == 0 || !counted
 }
@@ -274,6 +280,8 @@ fn instructions() {
         Bench::new().instructions();
         println!();
         blocks::instructions();
+        println!();
+        texts::instructions();
     } else {
         println!("no valgrind here, so not counted: instructions a call");
     }
@@ -285,6 +293,7 @@ fn main() -> ExitCode {
     let mut good = true;
     match (word(0), word(1)) {
         ("only", "block") => blocks::Blocks::new().calls(word(2), number(words.get(3), 1000)),
+        ("only", "text") => texts::Texts::new(number(words.get(3), 20)).calls(word(2), number(words.get(4), 1000)),
         ("only", "hostile") => hostile::named(word(2), number(words.get(3), 1)).calls(number(words.get(4), 1)),
         ("only", side) => Bench::new().only(side, word(2), number(words.get(3), 1000)),
         ("table", _) => Bench::new().table(number(words.get(1), 1_000_000), number(words.get(2), 5)),

@@ -82,7 +82,19 @@ pub struct Written {
     pub length: u64,
 }
 
+/// Which part of the image a text is, and its id: 0 for ##TX, 1 for ##MD.
+#[repr(C)]
+pub struct Text {
+    pub refusal: u32,
+    pub id: u32,
+    pub address: u64,
+    pub start: u64,
+    pub length: u64,
+}
+
 extern "C" {
+    pub fn mdf_text_read(image: *const u8, image_len: usize, address: u64) -> Text;
+    pub fn mdf_text_write(metadata: bool, text: *const u8, text_len: usize, out: *mut u8, out_len: usize) -> Written;
     pub fn mdf_parse(image: *const u8, image_len: usize, address: u64) -> Parsed;
     pub fn mdf_parse_kept(image: *const u8, image_len: usize, address: u64) -> Parsed;
     pub fn mdf_write(block: Block, refs: *const u64, refs_len: usize, words: *const u64, words_len: usize, out: *mut u8, out_len: usize) -> Written;

@@ -106,7 +106,11 @@ pub fn within(side: &dyn Side, scene: &Scene, tally: &mut Tally) -> Verdict {
             timed("a translation", units, tally, || side.translate(image, address, limit, &ask.text))?;
         }
     }
-    Ok(())
+    for &place in &scene.texts.places {
+        timed("a text block read", image.len() as u64, tally, || side.read_text(image, place))?;
+    }
+    let (text, mut out) = (&scene.texts.text, vec![0; scene.texts.room]);
+    timed("a text block written", (text.len() + out.len()) as u64, tally, || side.write_text(scene.texts.metadata, text, &mut out))
 }
 
 fn text_class(bytes: u64) -> &'static str {

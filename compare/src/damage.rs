@@ -1,5 +1,5 @@
 // Damages an image: cut off, looping, deep, with huge counts, with few links, with broken ids, texts and links, with padding; and addresses that hold
-// no block.
+// no block. Makes images with one text block, whole or damaged.
 use crate::numbers;
 use crate::plan::Laid;
 use crate::random::Random;
@@ -120,6 +120,88 @@ fn clear_excess(image: &mut [u8], block: u64) {
     if from < to {
         image[from..to].fill(0);
     }
+}
+
+const TEXT_IDS: &[&[u8; 4]] = &[b"##CC", b"##TY", b"##MX", b"##tx", b"##Md", b"##T\0", b"#TX#", b"\xff#TX", b"#\xffMD", b"TX##"];
+
+/// A block of type 10 with one reference: whatever it is asked, it shows the text there.
+pub fn shows(link: u64) -> [u8; 72] {
+    let mut block = [0; 72];
+    block[..4].copy_from_slice(b"##CC");
+    (block[8], block[16]) = (72, 5);
+    block[56..64].copy_from_slice(&link.to_le_bytes());
+    (block[64], block[68]) = (10, 1);
+    block
+}
+
+/// An image with a text block, whole or damaged, and an address, mostly that block's. At 0 stands a root that shows the text at this address.
+pub fn text_block(r: &mut Random) -> (Vec<u8>, u64) {
+    let at = 72 + r.pick(&[0, 0, 8, 1, 13]);
+    let filler = if r.chance(50) { 0 } else { r.next() as u8 };
+    let mut image = vec![filler; at];
+    image.extend(match r.below(10) {
+        0..=3 => b"##TX",
+        4..=7 => b"##MD",
+        _ => r.pick(TEXT_IDS),
+    });
+    let reserved = if r.chance(15) { numbers::reserved(r) } else { 0 };
+    let links = if r.chance(15) { r.next() >> r.below(64) } else { 0 };
+    let mut body = numbers::label(r);
+    body.resize(body.len() + r.pick(&[0, 0, 1, 8]), 0);
+    let behind = r.pick(&[0, 0, 1, 9]);
+    let length = text_length(at, 24 + body.len(), behind, r);
+    image.extend(reserved.to_le_bytes());
+    image.extend([length, links].iter().flat_map(|w| w.to_le_bytes()));
+    image.extend(body);
+    image.resize(image.len() + behind, filler);
+    if r.chance(10) {
+        image.truncate(at + r.below(30));
+    }
+    let end = image.len() as u64;
+    let address = match r.below(20) {
+        0 => end - 24,
+        1 => end - 23,
+        2 => at as u64 + r.pick(&[1, 4, 24]),
+        3 => u64::MAX - r.below(30) as u64,
+        4 => 0,
+        _ => at as u64,
+    };
+    image[..72].copy_from_slice(&shows(address));
+    (image, address)
+}
+
+/// The block length of a text block of a size with so many bytes behind it: exact, around 24, one by which it ends with the image or close to its end,
+/// or where its end fits no 64 bits.
+fn text_length(at: usize, size: usize, behind: usize, r: &mut Random) -> u64 {
+    let (whole, to_end) = (size as u64, (size + behind) as u64);
+    match r.below(20) {
+        0..=7 => whole,
+        8 => whole - r.below(size - 23) as u64,
+        9 | 10 => r.pick(&[0, 1, 22, 23, 23, 24, 24, 25]),
+        11 | 12 => to_end,
+        13 => to_end + 1,
+        14 => to_end - 1,
+        15 => to_end + at as u64,
+        16 => r.pick(&[u64::MAX, 1 << 63, 1 << 32, (1 << 32) + whole]),
+        // Its end is 2^64, or some bytes past it.
+        17 => 0u64.wrapping_sub(at as u64),
+        18 => 0u64.wrapping_sub(at as u64).wrapping_add(r.below(at + size) as u64),
+        _ => to_end + r.below(40) as u64,
+    }
+}
+
+/// Where texts are read in an image: at a block that is no conversion if there is one, at an edge of the image or the root, and where a link leads, or
+/// anywhere.
+pub fn text_places(laid: &Laid, others: &[usize], root: u64, r: &mut Random) -> Vec<u64> {
+    let end = laid.image.len() as u64;
+    let block = r.pick(&laid.places);
+    let text = if others.is_empty() { block } else { laid.places[r.pick(others)] };
+    let edge = r.pick(&[0, root, end.wrapping_sub(24), end.wrapping_sub(23)]);
+    let anywhere = match r.below(10) {
+        0..=5 => word(&laid.image, block as usize + 24 + 8 * r.below(7)),
+        _ => address(laid, root, r),
+    };
+    vec![text, edge, anywhere]
 }
 
 /// Ends the image: anywhere, or close to where a block ends or starts.

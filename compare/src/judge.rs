@@ -6,6 +6,7 @@ use crate::scene::{Ask, Fields, Scene};
 use crate::second::{Second, RIGHT};
 use crate::side::{Applied, Checked, Side, Value, STANDARD};
 use crate::tally::Tally;
+use crate::texts::{texts_alike, texts_like};
 use crate::theirs::{self, Outcome};
 use crate::wrong::Wrong;
 use oracle::blocks::conversion::ConversionBlock;
@@ -51,6 +52,7 @@ const CRATE_TEXTS: u64 = 4_000_000;
 pub fn with_crate(side: &dyn Side, scene: &Scene, tally: &mut Tally) -> Verdict {
     written_fields(side, &scene.fields, tally)?;
     written_fields(side, &scene.padded, tally)?;
+    texts_like(side, scene, tally)?;
     if (scene.address as u128 + 24) > scene.image.len() as u128 || has_huge_links(&scene.image) {
         return Ok(());
     }
@@ -316,6 +318,7 @@ pub fn with_side(a: &dyn Side, b: &dyn Side, scene: &Scene, tally: &mut Tally) -
     count_few_links(scene, checked, parsed.refusal, tally);
     fields_alike(a, b, &scene.fields, tally)?;
     fields_alike(a, b, &scene.padded, tally)?;
+    texts_alike(a, b, scene, tally)?;
     for ask in &scene.asks {
         let (mut out_a, mut out_b) = (output(ask.room), output(ask.room));
         let ours = a.apply(image, address, limit, ask.value, &ask.text, &mut out_a);

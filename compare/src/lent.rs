@@ -1,6 +1,6 @@
 // Lent buffers with a guard around them. A buffer stands at the edge of its pages: past the edge no access is allowed, so that a read or
 // a write there stops the program; on its other side stand guard bytes that are looked at after each call.
-use crate::side::{Applied, Block, Checked, Mode, Parsed, Shown, Side, Value, Written};
+use crate::side::{Applied, Block, Checked, Mode, Parsed, Shown, Side, Text, Value, Written};
 use std::cell::{Cell, RefCell};
 
 extern "C" {
@@ -181,6 +181,24 @@ impl<S: Side> Side for Guarded<S> {
         let kept = self.refs.guard_stands(8 * refs.len(), back) && self.words.guard_stands(8 * words.len(), back);
         self.expect(kept && refs == lent_refs && words == lent_words, "write: the references, the values or a guard have changed");
         self.expect(self.out.guard_stands(out.len(), back), "write: the guard of the output has changed");
+        out.copy_from_slice(lent_out);
+        answer
+    }
+
+    fn read_text(&self, image: &[u8], address: u64) -> Text {
+        let back = self.turn();
+        let lent = self.image.lend(image, back);
+        let answer = self.side.read_text(lent, address);
+        self.look(&self.image, image, lent, back, "read_text: the image or its guard has changed");
+        answer
+    }
+
+    fn write_text(&self, metadata: bool, text: &[u8], out: &mut [u8]) -> Written {
+        let back = self.turn();
+        let (lent_text, lent_out) = (self.text.lend(text, back), self.out.lend(out, back));
+        let answer = self.side.write_text(metadata, lent_text, lent_out);
+        self.look(&self.text, text, lent_text, back, "write_text: the text or its guard has changed");
+        self.expect(self.out.guard_stands(out.len(), back), "write_text: the guard of the output has changed");
         out.copy_from_slice(lent_out);
         answer
     }

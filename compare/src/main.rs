@@ -30,6 +30,7 @@ mod sharp;
 mod side;
 mod spill;
 mod tally;
+mod texts;
 mod theirs;
 mod watch;
 mod wrong;

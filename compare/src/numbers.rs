@@ -79,6 +79,23 @@ pub fn text(r: &mut Random) -> Vec<u8> {
     (0..1 + r.below(40)).map(|_| b'a' + r.below(26) as u8).collect()
 }
 
+const CHARACTERS: &[char] = &['a', 'é', 'ß', '日', '😀', '|', ' ', '\u{7f}', '\u{fffd}'];
+
+/// A text to write: of 0 to 40 bytes, now and then of some thousands. One in five has a zero byte, first, last or between; some are no UTF-8.
+pub fn label(r: &mut Random) -> Vec<u8> {
+    let length = if r.below(300) == 0 { r.below(4000) } else { r.below(41) };
+    let mut text: Vec<u8> = match r.below(10) {
+        0..=6 => (0..length).map(|i| b'a' + (i as u8 ^ r.next() as u8) % 26).collect(),
+        7 | 8 => (0..length.div_ceil(4)).map(|_| r.pick(CHARACTERS)).collect::<String>().into_bytes(),
+        _ => (0..length).map(|_| (r.next() as u8).max(1)).collect(),
+    };
+    if !text.is_empty() && r.chance(20) {
+        let (middle, last) = (text.len() / 2, text.len() - 1);
+        text[r.pick(&[0, middle, last])] = 0;
+    }
+    text
+}
+
 pub fn whole(r: &mut Random) -> u64 {
     match r.below(10) {
         0..=3 => r.pick(WHOLES),

@@ -1,5 +1,5 @@
 // The proved build, through its C face. A slice goes over as its pointer and its length.
-use crate::side::{Applied, Block, Checked, Mode, Parsed, Shown, Side, Value, Written};
+use crate::side::{Applied, Block, Checked, Mode, Parsed, Shown, Side, Text, Value, Written};
 
 type Bytes = *const u8;
 
@@ -65,6 +65,8 @@ extern "C" {
     fn mdf_parse(image: Bytes, image_len: usize, address: u64) -> Parsed;
     fn mdf_parse_kept(image: Bytes, image_len: usize, address: u64) -> Parsed;
     fn mdf_write(block: Block, refs: *const u64, refs_len: usize, words: *const u64, words_len: usize, out: *mut u8, out_len: usize) -> Written;
+    fn mdf_text_read(image: Bytes, image_len: usize, address: u64) -> Text;
+    fn mdf_text_write(metadata: bool, text: Bytes, text_len: usize, out: *mut u8, out_len: usize) -> Written;
 }
 
 pub struct Ours;
@@ -114,5 +116,13 @@ impl Side for Ours {
 
     fn write(&self, block: Block, refs: &[u64], words: &[u64], out: &mut [u8]) -> Written {
         unsafe { mdf_write(block, refs.as_ptr(), refs.len(), words.as_ptr(), words.len(), out.as_mut_ptr(), out.len()) }
+    }
+
+    fn read_text(&self, image: &[u8], address: u64) -> Text {
+        unsafe { mdf_text_read(image.as_ptr(), image.len(), address) }
+    }
+
+    fn write_text(&self, metadata: bool, text: &[u8], out: &mut [u8]) -> Written {
+        unsafe { mdf_text_write(metadata, text.as_ptr(), text.len(), out.as_mut_ptr(), out.len()) }
     }
 }

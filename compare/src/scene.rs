@@ -5,6 +5,7 @@ use crate::grow::Grower;
 use crate::hostile;
 use crate::lent::LARGEST_IMAGE;
 use crate::numbers;
+use crate::plan::{Laid, Node, Plan};
 use crate::random::Random;
 use crate::second::RIGHT;
 use crate::side::{Block, Mode, Side, Value};
@@ -21,10 +22,11 @@ const MOST_EXCESS: u64 = 6000;
 /// A limit that no grown tree reaches.
 pub const WIDE_LIMIT: u32 = 20_000;
 
-/// Widths, editions and padded fields are each drawn apart, so that they change no image and no value of a seed, nor each other.
+/// Widths, editions, padded fields and texts are each drawn apart, so that they change no image and no value of a seed, nor each other.
 const WIDTHS: u64 = 0x7769_6474_6873;
 const EDITIONS: u64 = 0x6564_6974_696f_6e73;
 const PADDED: u64 = 0x7061_6464_6564;
+const TEXTS: u64 = 0x74_6578_7473;
 
 fn is_hostile(number: u64) -> bool {
     number % HOSTILE_EVERY == HOSTILE_EVERY - 1
@@ -63,6 +65,21 @@ pub struct Fields {
     pub room: usize,
 }
 
+/// A text to write, and text blocks to read.
+#[derive(Clone)]
+pub struct Texts {
+    pub metadata: bool,
+    pub text: Vec<u8>,
+    pub room: usize,
+    /// What was written is read back behind so many bytes.
+    pub before: usize,
+    /// An image with one text block and a root that shows the text at this address.
+    pub image: Vec<u8>,
+    pub address: u64,
+    /// Where texts are read in the scene's image.
+    pub places: Vec<u64>,
+}
+
 #[derive(Clone)]
 pub struct Scene {
     pub image: Vec<u8>,
@@ -72,6 +89,7 @@ pub struct Scene {
     pub fields: Fields,
     /// Others, with padding.
     pub padded: Fields,
+    pub texts: Texts,
     /// Whether the work of its calls is measured.
     pub hostile: bool,
 }
@@ -81,8 +99,9 @@ impl Scene {
         let mut r = Random::new(seed, number);
         let mut modes = Modes::new(seed, number);
         let padded = padded_fields(&mut Random::new(seed ^ PADDED, number));
+        let mut text_draws = Random::new(seed ^ TEXTS, number);
         if is_hostile(number) {
-            return Scene::hostile(&mut r, &mut modes, padded);
+            return Scene::hostile(&mut r, &mut modes, padded, &mut text_draws);
         }
         let grown = Grower::grow(&mut r);
         let mut laid = grown.plan.lay(&mut r);
@@ -103,10 +122,11 @@ impl Scene {
             damage::padding(&mut laid, address, &mut r);
         }
         assert!(laid.image.len() <= LARGEST_IMAGE);
+        let texts = texts(&grown.plan, &laid, address, &mut text_draws);
         let limit = limit(&laid.image, address, &mut r);
         let root = RIGHT.opened(&laid.image, address);
         let wants_text = root.is_some_and(|b| b.kind == 9 || b.kind == 10);
-        let mut scene = Scene { image: laid.image, address, limit, asks: Vec::new(), fields: fields(&mut r, 0, 0), padded, hostile: false };
+        let mut scene = Scene { image: laid.image, address, limit, asks: Vec::new(), fields: fields(&mut r, 0, 0), padded, texts, hostile: false };
         for _ in 0..ASKS {
             let value = numbers::value(&mut r, &grown.palette, wants_text);
             let text = if value == Value::Text { numbers::question(&mut r, &grown.texts) } else { Vec::new() };
@@ -117,13 +137,14 @@ impl Scene {
     }
 
     /// A hostile image, which is not damaged; the room is mostly small.
-    fn hostile(r: &mut Random, modes: &mut Modes, padded: Fields) -> Scene {
+    fn hostile(r: &mut Random, modes: &mut Modes, padded: Fields, text_draws: &mut Random) -> Scene {
         let grown = hostile::grow(r);
         let laid = grown.plan.lay(r);
         let address = laid.places[grown.plan.root];
+        let texts = texts(&grown.plan, &laid, address, text_draws);
         let limit = limit(&laid.image, address, r);
         let wants_text = RIGHT.opened(&laid.image, address).is_some_and(|b| b.kind == 9 || b.kind == 10);
-        let mut scene = Scene { image: laid.image, address, limit, asks: Vec::new(), fields: fields(r, 0, 0), padded, hostile: true };
+        let mut scene = Scene { image: laid.image, address, limit, asks: Vec::new(), fields: fields(r, 0, 0), padded, texts, hostile: true };
         for _ in 0..ASKS {
             let value = match r.below(10) {
                 0 => numbers::value(r, &grown.palette, wants_text),
@@ -175,6 +196,27 @@ fn block_room(size: usize, excess: u64, r: &mut Random) -> usize {
         whole + r.below(9)
     } else {
         r.pick(&[whole, whole - 1, 0, 24, size / 2, size, size - 1])
+    }
+}
+
+fn texts(plan: &Plan, laid: &Laid, root: u64, r: &mut Random) -> Texts {
+    let others: Vec<usize> = (0..plan.nodes.len()).filter(|&n| matches!(plan.nodes[n], Node::Text { .. } | Node::Foreign { .. })).collect();
+    let places = damage::text_places(laid, &others, root, r);
+    let text = numbers::label(r);
+    let room = text_room(text.len(), r);
+    let before = r.pick(&[0, 0, 1, 8, 24, 40]);
+    let (image, address) = damage::text_block(r);
+    Texts { metadata: r.chance(50), text, room, before, image, address, places }
+}
+
+/// Room for the block of a text: mostly more than enough or just so, sometimes one byte less, none, or enough for all but some of its zeros.
+fn text_room(length: usize, r: &mut Random) -> usize {
+    let whole = 24 + length / 8 * 8 + 8;
+    match r.below(10) {
+        0..=3 => whole + r.below(40),
+        4..=6 => whole,
+        7 => whole - 1,
+        _ => r.pick(&[0, 24, 24 + length, 25 + length, whole / 2]),
     }
 }
 

@@ -1,11 +1,13 @@
-// A second reading of document 01 and requests [2], [5], [6], [8] and [11], plain and slow: check, apply, parse, write and the type 10 entry. It
-// judges the proved build where the crate has no say, and with one rule broken (`wrong`) it is a wrong build that the comparison has to catch.
+// A second reading of document 01 and requests [2], [5], [6], [8], [11] and [13], plain and slow: check, apply, parse, write, the type 10 entry and
+// text blocks. It judges the proved build where the crate has no say, and with one rule broken (`wrong`) it is a wrong build that the comparison has
+// to catch.
 mod apply;
 mod block;
 mod padding;
 mod rules;
+mod texts;
 
-use crate::side::{Applied, Block, Checked, Mode, Parsed, Shown, Side, Value, Written, STANDARD};
+use crate::side::{Applied, Block, Checked, Mode, Parsed, Shown, Side, Text, Value, Written, STANDARD};
 use crate::wrong::Wrong;
 use apply::{Application, Says};
 pub use block::{bound, Found};
@@ -439,5 +441,13 @@ impl Side for Second {
 
     fn write(&self, block: Block, refs: &[u64], words: &[u64], out: &mut [u8]) -> Written {
         self.written(block, refs, words, out)
+    }
+
+    fn read_text(&self, image: &[u8], address: u64) -> Text {
+        self.text_read(image, address)
+    }
+
+    fn write_text(&self, metadata: bool, text: &[u8], out: &mut [u8]) -> Written {
+        self.text_written(metadata, text, out)
     }
 }

@@ -91,6 +91,17 @@ pub struct Written {
     pub length: u64,
 }
 
+/// `id`: 0 for ##TX, 1 for ##MD. `start` and `length`: the part of the image that is the text.
+#[repr(C)]
+#[derive(Clone, Copy, Debug, Default, PartialEq, Eq)]
+pub struct Text {
+    pub refusal: u32,
+    pub id: u32,
+    pub address: u64,
+    pub start: u64,
+    pub length: u64,
+}
+
 /// One of the two builds of document 01 that are compared.
 pub trait Side {
     fn check(&self, image: &[u8], address: u64, limit: u32) -> Checked;
@@ -105,6 +116,12 @@ pub trait Side {
     /// The entry that keeps the padding.
     fn parse_kept(&self, image: &[u8], address: u64) -> Parsed;
     fn write(&self, block: Block, refs: &[u64], words: &[u64], out: &mut [u8]) -> Written;
+
+    /// The text of the ##TX or ##MD at an address.
+    fn read_text(&self, image: &[u8], address: u64) -> Text;
+
+    /// A text as a block: ##MD where it is metadata, else ##TX.
+    fn write_text(&self, metadata: bool, text: &[u8], out: &mut [u8]) -> Written;
 
     /// What a call has touched that it may not, since this was last asked.
     fn fault(&self) -> Option<&'static str> {

@@ -1,7 +1,8 @@
 // The oracle's answers: the crate parses, resolves with the address, then applies with the image. A panic of the crate is an answer too.
 use crate::side::{same_float, Block, Value};
-use oracle::blocks::common::{BlockHeader, BlockParse};
+use oracle::blocks::common::{read_string_block, BlockHeader, BlockParse};
 use oracle::blocks::conversion::{ConversionBlock, ConversionType};
+use oracle::blocks::text_block::TextBlock;
 use oracle::error::MdfError;
 use oracle::parsing::decoder::DecodedValue;
 use std::cell::Cell;
@@ -72,6 +73,21 @@ pub fn applied(block: &ConversionBlock, value: DecodedValue, image: &[u8]) -> Ou
 
 pub fn written(block: &ConversionBlock) -> Outcome<Vec<u8>> {
     asked(|| block.to_bytes())
+}
+
+/// A text as a ##TX: the crate writes no ##MD.
+pub fn text_written(text: &str) -> Outcome<Vec<u8>> {
+    asked(|| TextBlock::new(text).to_bytes())
+}
+
+/// The text of the ##TX or ##MD at an address; none at address 0, and where another id stands.
+pub fn text_at(image: &[u8], address: u64) -> Outcome<Option<String>> {
+    asked(|| read_string_block(image, address))
+}
+
+/// The header at an address.
+pub fn header_at(image: &[u8], address: u64) -> Outcome<BlockHeader> {
+    asked(|| BlockHeader::from_bytes(image.get(address as usize..).unwrap_or(&[])))
 }
 
 /// Equal values, all NaNs as one.
