@@ -14,7 +14,7 @@ use Rattle.common.proofs.Texts.{run-nil, run-outside, run-inside, run-other, ru
 use Rattle.common.specs.declared.refusal.Refusal.the-variants.{Outside, NotTextBlock}
 use Rattle.common.specs.declared.text.Text.{Text}
 use Rattle.common.specs.declared.text.Text.the-variants.{Part, NoText}
-use Rattle.texts.specs.Read.{idWord, foundAt, taken, readAs, readAt, reading}
+use Rattle.texts.specs.Read.{idWord, foundAt, linkText, readAs, readAt, reading}
 use Rattle.texts.specs.declared.read.TextId.{TextId}
 use Rattle.texts.specs.declared.read.TextId.the-variants.{Tx, Md}
 use Rattle.texts.specs.declared.read.TextRead.{TextRead}
@@ -67,35 +67,35 @@ module _ (img : List ℕ) (a : ℕ) where
       go false t m = tt
 
   -- ---- conversions
-  taken-tx : (t : Text) → taken (foundAt Tx a t) ≡ t
-  taken-tx (Part from to) = refl
-  taken-tx NoText = refl
+  link-tx : (t : Text) → linkText (foundAt Tx a t) ≡ t
+  link-tx (Part from to) = refl
+  link-tx NoText = refl
 
-  taken-md : (t : Text) → taken (foundAt Md a t) ≡ NoText
-  taken-md (Part from to) = refl
-  taken-md NoText = refl
+  link-md : (t : Text) → linkText (foundAt Md a t) ≡ NoText
+  link-md (Part from to) = refl
+  link-md NoText = refl
 
   -- for every address but 0, which as a link is NIL: the text that a conversion's link to it gives is that of the ##TX that is read there; a ##MD gives none,
   -- and where nothing is read there is none
-  pub as-linked : (a ≡ 0 → ⊥) → textOf img a ≡ taken (reading img a)
+  pub as-linked : (a ≡ 0 → ⊥) → textOf img a ≡ linkText (reading img a)
   unfolding reading readAt readAs textOf
   as-linked nonzero = go (inside img a) (hasId (idWord Tx) img a) (hasId (idWord Md) img a) refl refl
     where
       go : (i t m : Bool) → inside img a ≡ i → hasId (idWord Tx) img a ≡ t
-          → textOf img a ≡ taken (cond i (cond t (readAs Tx img a) (cond m (readAs Md img a) (Unread (NotTextBlock a)))) (Unread (Outside a)))
-      go true true m p q = ap (cutOff img) (run-inside img a nonzero p) ∙ sym (taken-tx (cutOff img (runAt textId img a)))
-      go true false true p q = text-of-none img a (run-inside img a nonzero p ∙ run-other textId img a q) ∙ sym (taken-md (cutOff img (runAt (idWord Md) img a)))
+          → textOf img a ≡ linkText (cond i (cond t (readAs Tx img a) (cond m (readAs Md img a) (Unread (NotTextBlock a)))) (Unread (Outside a)))
+      go true true m p q = ap (cutOff img) (run-inside img a nonzero p) ∙ sym (link-tx (cutOff img (runAt textId img a)))
+      go true false true p q = text-of-none img a (run-inside img a nonzero p ∙ run-other textId img a q) ∙ sym (link-md (cutOff img (runAt (idWord Md) img a)))
       go true false false p q = text-of-none img a (run-inside img a nonzero p ∙ run-other textId img a q)
       go false t m p q = text-of-none img a (run-outside img a nonzero p)
 
--- only a ##TX has a text that is taken
-taken-is : (r : TextRead) (from to : ℕ) → Part from to ≡ taken r → r ≡ Found Tx from to
-taken-is (Found Tx x y) from to e =
+-- only a ##TX has a text that a link gives
+link-is : (r : TextRead) (from to : ℕ) → Part from to ≡ linkText r → r ≡ Found Tx from to
+link-is (Found Tx x y) from to e =
     let one : x ≡ from = cc in
     let two : y ≡ to = cc in
     cc
-taken-is (Found Md x y) from to e = clash cc
-taken-is (Unread r) from to e = clash cc
+link-is (Found Md x y) from to e = clash cc
+link-is (Unread r) from to e = clash cc
 
 -- the other way round: a text that a link gives is read here, as that of a ##TX
 pub as-read : (img : List ℕ) (link from to : ℕ) → textOf img link ≡ Part from to → reading img link ≡ Found Tx from to
@@ -105,7 +105,7 @@ as-read img link from to e = go (eqb link 0) refl
     go true z =
         let none = text-of-none img link (run-nil img link (eqb-true link 0 z)) in
         clash cc
-    go false z = taken-is (reading img link) from to (sym e ∙ as-linked img link (eqb-false link 0 z))
+    go false z = link-is (reading img link) from to (sym e ∙ as-linked img link (eqb-false link 0 z))
 
 -- a ##MD gives a conversion no text, wherever it stands
 pub no-text-of-metadata : (img : List ℕ) (link from to : ℕ) → reading img link ≡ Found Md from to → textOf img link ≡ NoText
@@ -113,4 +113,4 @@ no-text-of-metadata img link from to e = go (eqb link 0) refl
   where
     go : (z : Bool) → eqb link 0 ≡ z → textOf img link ≡ NoText
     go true z = text-of-none img link (run-nil img link (eqb-true link 0 z))
-    go false z = as-linked img link (eqb-false link 0 z) ∙ ap taken e
+    go false z = as-linked img link (eqb-false link 0 z) ∙ ap linkText e

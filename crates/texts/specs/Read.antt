@@ -24,10 +24,10 @@ foundAt id a (Part from to) = Found id from to
 foundAt id a NoText = Unread (Short a)
 
 -- "Conversions still take ##TX only": the text that a conversion's link gives of what is read at its address (`as-linked`)
-abbrev pub taken : TextRead → Text
-taken (Found Tx from to) = Part from to
-taken (Found Md from to) = NoText
-taken (Unread r) = NoText
+abbrev pub linkText : TextRead → Text
+linkText (Found Tx from to) = Part from to
+linkText (Found Md from to) = NoText
+linkText (Unread r) = NoText
 
 -- the block at a, which has this id: its text goes from byte 24 to the first zero byte or to the block length
 unfoldable pub readAs : TextId → List ℕ → ℕ → TextRead
