@@ -16,7 +16,7 @@ use Rattle.words.proofs.Laws.{two-puts}
 use Rattle.words.proofs.Slices.{next}
 use Rattle.common.specs.Header.{headerAt, headerBytes, inside, hasId}
 use Rattle.common.proofs.Headers.{header-drop, header-bytes}
-use Rattle.common.specs.Text.{untilZero, runAt, textBytes, cutOff, shown}
+use Rattle.common.specs.Text.{untilZero, runAt, textBytes, cutOff, textOf, shown}
 use Rattle.common.proofs.Texts.{run-whole, text-shown}
 use Rattle.common.specs.Written.{WriteCall, writeCall, holding}
 use Rattle.common.proofs.Holding.{Held, held}
@@ -26,12 +26,12 @@ use Rattle.common.specs.declared.text.Text.{Text}
 use Rattle.common.specs.declared.text.Text.the-variants.{Part}
 use Rattle.common.specs.declared.written.Written.{Written}
 use Rattle.common.specs.declared.written.Written.the-variants.{Bytes, Unwritten}
-use Rattle.texts.specs.Read.{idWord, foundAt, readAs, reading}
+use Rattle.texts.specs.Read.{idWord, foundAt, linkText, readAs, reading}
 use Rattle.texts.specs.Write.{holdsZero, upToEight, blockSize, textBlock, writingText}
 use Rattle.texts.specs.declared.read.TextId.{TextId}
 use Rattle.texts.specs.declared.read.TextId.the-variants.{Tx, Md}
 use Rattle.texts.specs.declared.read.TextRead.the-variants.{Found}
-use Rattle.texts.proofs.Reading.{read-inside, read-as-id}
+use Rattle.texts.proofs.Reading.{read-inside, read-as-id, as-linked}
 
 -- ---- the length
 -- one to eight zeros stand behind the text: the zero byte, and those up to a multiple of 8
@@ -199,6 +199,12 @@ module _ (id : TextId) (before text behind : List ℕ) where
     pub shows-written : shown (before ++ (textBlock id text ++ behind)) (Part (length before + 24) (length before + 24 + length text)) ≡ text
     shows-written =
         ap (λ (bs : List ℕ). shown image (Part (a + 24) (a + 24 + length bs))) (sym bytes) ∙ text-shown image (a + 24) (a + blockSize n) ∙ bytes
+
+-- what a conversion takes by a link to it, wherever it does not begin the image: the text of a ##TX, none of a ##MD
+pub written-linked : (id : TextId) (before text behind : List ℕ) → holdsZero text ≡ false → blockSize (length text) < 2 ^ 64 → (length before ≡ 0 → ⊥)
+    → textOf (before ++ (textBlock id text ++ behind)) (length before) ≡ linkText (Found id (length before + 24) (length before + 24 + length text))
+written-linked id before text behind clean small far =
+    as-linked (before ++ (textBlock id text ++ behind)) (length before) far ∙ ap linkText (read-written id before text behind clean small)
 
 -- the writer's output, read from its byte 0 on; an output has fewer than 2^64 bytes
 pub output-read : (id : TextId) (text out : List ℕ) (w : Written) (n : ℕ) (after : List ℕ) → writeCall w after ≡ writingText id text out → w ≡ Bytes n
