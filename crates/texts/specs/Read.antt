@@ -23,12 +23,6 @@ abbrev pub foundAt : TextId → ℕ → Text → TextRead
 foundAt id a (Part from to) = Found id from to
 foundAt id a NoText = Unread (Short a)
 
--- "Conversions still take ##TX only": the text that a conversion's link gives of what is read at its address (`as-linked`)
-abbrev pub linkText : TextRead → Text
-linkText (Found Tx from to) = Part from to
-linkText (Found Md from to) = NoText
-linkText (Unread r) = NoText
-
 -- the block at a, which has this id: its text goes from byte 24 to the first zero byte or to the block length
 unfoldable pub readAs : TextId → List ℕ → ℕ → TextRead
 readAs id img a = foundAt id a (cutOff img (runAt (idWord id) img a))
@@ -40,3 +34,9 @@ readAt img a = cond (hasId (idWord Tx) img a) (readAs Tx img a) (cond (hasId (id
 -- 1 where there is no header; address 0 is an address like any other
 unfoldable pub reading : List ℕ → ℕ → TextRead
 reading img a = cond (inside img a) (readAt img a) (Unread (Outside a))
+
+-- "Conversions still take ##TX only": the text that a conversion's link gives of what is read at its address (`as-linked`)
+abbrev pub linkText : TextRead → Text
+linkText (Found Tx from to) = Part from to
+linkText (Found Md from to) = NoText
+linkText (Unread r) = NoText
