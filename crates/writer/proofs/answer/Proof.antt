@@ -1,6 +1,6 @@
 -- `writer::answer` meets its contract. Assumes nothing.
 use mathlib.Core.Path.{_≡_, sym, ap, _∙_}
-use mathlib.Core.Bool.{false}
+use mathlib.Core.Bool.{true, false}
 use Prim.Native.Nat.{_+_, _*_, _≤_}
 use native.Mathlib.Omega.{arith}
 use Rattle.writer.specs.Write.{writeSize, readAsRange}
@@ -21,7 +21,9 @@ few : (c : tie.After-range-size) → c .before .before .before .before .args .va
 few c = c .before .before .before .if1 .left
 
 unread : (c : tie.After-range-size) → readAsRange (c .before .before .before .before .args .ranged) (c .before .before .before .before .args .excess) ≡ false
-unread c = sym (c .before .before .is-read-as-range .ensures) ∙ c .before .if2 .left
+unread c =
+    let no : c .before .before .is-read-as-range .result ≡ false = c .before .if2 .left in
+    sym (c .before .before .is-read-as-range .ensures) ∙ no
 
 returns : tie.Need-returns
 returns c =
@@ -34,7 +36,8 @@ is-read-as-range-requires c κs = search needs
 returns-2 : tie.Need-returns-2
 returns-2 c =
     let a = c .before .before .before .args in
-    sym (no-range (a .ranged) (a .refs) (a .values) (a .excess) (a .room) (c .before .before .if1 .left) (sym (c .before .is-read-as-range .ensures) ∙ c .if2 .taken))
+    let yes : c .before .is-read-as-range .result ≡ true = c .if2 .taken in
+    sym (no-range (a .ranged) (a .refs) (a .values) (a .excess) (a .room) (c .before .before .if1 .left) (sym (c .before .is-read-as-range .ensures) ∙ yes))
 
 mul-size : tie.Need-mul-size
 mul-size c = search needs

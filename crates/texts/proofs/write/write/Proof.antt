@@ -1,5 +1,6 @@
 -- `texts::write::write` meets its contract. Assumes nothing.
-use mathlib.Core.Path.{sym, _∙_}
+use mathlib.Core.Path.{_≡_, sym, _∙_}
+use mathlib.Core.Bool.{true, false}
 use native.Mathlib.Omega.{arith}
 use denote.Ref.{now}
 use lib.ListN.{length}
@@ -16,7 +17,8 @@ holds-zero-requires c κs = search needs
 returns : tie.Need-returns
 returns c =
     let a = c .before .before .before .before .args in
-    sym (zero-refused (a .id) (now (a .text)) (now (a .out)) (sym (c .before .holds-zero .ensures) ∙ c .if1 .taken))
+    let zero : c .before .holds-zero .result ≡ true = c .if1 .taken in
+    sym (zero-refused (a .id) (now (a .text)) (now (a .out)) (sym (c .before .holds-zero .ensures) ∙ zero))
 
 block-size-requires : tie.Need-block-size-requires
 block-size-requires c κs = search needs
@@ -25,7 +27,8 @@ returns-2 : tie.Need-returns-2
 returns-2 c =
     let a = c .before .before .before .before .before .before .args in
     let long = length-text-block (a .id) (now (a .text)) in
-    sym (clean-held (a .id) (now (a .text)) (now (a .out)) (sym (c .before .before .before .holds-zero .ensures) ∙ c .before .before .if1 .left)
+    let clean : c .before .before .before .holds-zero .result ≡ false = c .before .before .if1 .left in
+    sym (clean-held (a .id) (now (a .text)) (now (a .out)) (sym (c .before .before .before .holds-zero .ensures) ∙ clean)
     ∙ none-held (textBlock (a .id) (now (a .text))) (now (a .out)) (omega (arith, long, c .before .block-size .ensures)))
 
 put-block-requires : tie.Need-put-block-requires
@@ -41,8 +44,9 @@ returns-3 c =
     let zero = size .before .before in
     let a = zero .before .before .before .args in
     let long = size .block-size .ensures ∙ sym (length-text-block (a .id) (now (a .text))) in
+    let clean : zero .holds-zero .result ≡ false = size .before .if1 .left in
     put-held (textBlock (a .id) (now (a .text))) (now (a .out)) long (room .if2 .left) (c .before .before .put-block .ensures)
-    ∙ sym (clean-held (a .id) (now (a .text)) (now (a .out)) (sym (zero .holds-zero .ensures) ∙ size .before .if1 .left))
+    ∙ sym (clean-held (a .id) (now (a .text)) (now (a .out)) (sym (zero .holds-zero .ensures) ∙ clean))
 
 pub write-spec : {M : Type 1} → statement M
 write-spec =
