@@ -15,7 +15,8 @@ the text, filled up with zeros to 16 bytes.
 import os
 import struct
 
-KINDS = ("unsigned", "signed", "float", "text", "other")
+KINDS = ("unsigned", "signed", "float", "text", "other", "back")
+TEXTS = ("text", "back")  # "back" is a text that is asked back from a value to text conversion
 TYPES = ("identity", "linear", "rational", "formula", "table interpolated", "table nearest", "range to value", "value to text", "range to text",
          "text to value", "text to text", "bit groups")
 NONE = 2 ** 32
@@ -64,10 +65,10 @@ def conversion(label, kind, name="", unit="", comment="", inverse="", refs=(), v
 
 def request(where, kind, value=0, limit=4096, room=4096, width=NONE, edition=NONE):
     """A value for the conversion with a label, or at an address. Limit and room are the usual ones if they are not given."""
-    text = value.encode() if kind == "text" else b""
-    bits = {"unsigned": "<Q", "signed": "<q", "float": "<d", "text": "<Q", "other": "<Q"}[kind]
+    text = value.encode() if kind in TEXTS else b""
+    bits = {"signed": "<q", "float": "<d"}.get(kind, "<Q")
     assert len(text) <= 16 and room <= 4096
-    body = struct.pack("<Q", KINDS.index(kind)) + struct.pack(bits, len(text) if kind == "text" else value)
+    body = struct.pack("<Q", KINDS.index(kind)) + struct.pack(bits, len(text) if kind in TEXTS else value)
     requests.append((where, body + struct.pack("<QQQQ", limit, room, width, edition) + text.ljust(16, b"\0")))
 
 
@@ -150,6 +151,11 @@ request("ranges", "float", 10.0)
 request("ranges", "float", 20.0)
 request("gear", "unsigned", 2)
 request("gear", "unsigned", 3)
+# A text back to its number, by the inverse of the conversion.
+request("gear", "back", "Low")
+request("gear", "back", "High")
+request("seat", "back", "on")
+request("linear", "back", "Low")
 request("oil text", "unsigned", 10)
 request("oil text", "float", 10.0)
 request("oil text", "unsigned", 100)

@@ -1,4 +1,5 @@
 pub mod Headers
 pub mod Holding
+pub mod Indexes
 pub mod Texts
 pub mod TypeNumbers

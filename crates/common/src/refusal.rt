@@ -1,9 +1,10 @@
 // Why a call is refused. Stands for the parts of error.rs that a conversion can meet; the numbers are document 01's, and from 11 on those of the
 // requests after it.
 ghost use mathlib.Core.Path.{_≡_};
-ghost use Rattle.common.specs.Refusal.{numberOf, addressOf};
+ghost use Rattle.common.specs.Refusal.{numberOf, addressOf, indexOf};
 
-// 1 to 6, 18 and 22 carry the address of the block or the link. They stand first, so that the machine tells them from the others by one comparison.
+// 1 to 6, 15, 18 and 22 carry the address of the block or the link, 12 to 14 the index of a key. They stand first, so that the machine tells each kind
+// from the others by one comparison.
 pub enum Refusal {
     Outside(u64),
     NotConversion(u64),
@@ -13,6 +14,10 @@ pub enum Refusal {
     Loop(u64),
     FewLinks(u64),
     NotTextBlock(u64),
+    WrongType(u64),
+    NotText(u32),
+    Repeated(u32),
+    Key(u32),
     Formula,
     Room,
     Count,
@@ -42,6 +47,10 @@ impl Refusal {
             Refusal::Loop(_) => 6,
             Refusal::FewLinks(_) => 18,
             Refusal::NotTextBlock(_) => 22,
+            Refusal::WrongType(_) => 15,
+            Refusal::NotText(_) => 12,
+            Refusal::Repeated(_) => 13,
+            Refusal::Key(_) => 14,
             Refusal::Formula => 7,
             Refusal::Room => 8,
             Refusal::Count => 9,
@@ -65,6 +74,10 @@ impl Refusal {
             Refusal::Loop(a) => Word::Bits(a),
             Refusal::FewLinks(a) => Word::Bits(a),
             Refusal::NotTextBlock(a) => Word::Bits(a),
+            Refusal::WrongType(a) => Word::Bits(a),
+            Refusal::NotText(_) => Word::NoWord,
+            Refusal::Repeated(_) => Word::NoWord,
+            Refusal::Key(_) => Word::NoWord,
             Refusal::Formula => Word::NoWord,
             Refusal::Room => Word::NoWord,
             Refusal::Count => Word::NoWord,
@@ -72,6 +85,18 @@ impl Refusal {
             Refusal::Edition => Word::NoWord,
             Refusal::Padding => Word::NoWord,
             Refusal::ZeroByte => Word::NoWord,
+        }
+    }
+
+    // The index of the key that it carries; 0 where it carries none.
+    pub fn index(self) -> u32
+        ensures { λ r. ⌜ r ≡ indexOf self ⌝ }
+    {
+        match self {
+            Refusal::NotText(i) => i,
+            Refusal::Repeated(i) => i,
+            Refusal::Key(i) => i,
+            _ => 0,
         }
     }
 }

@@ -3,3 +3,4 @@ pub mod Applied
 pub mod Block
 pub mod Place
 pub mod Text
+pub mod Inverted

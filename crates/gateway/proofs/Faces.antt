@@ -22,9 +22,11 @@ use Rattle.texts.specs.declared.read.TextRead.the-variants.{Found, Unread}
 use Rattle.faces.specs.Checked.{Ordered}
 use Rattle.faces.specs.Applied.{appliedFace, face, callFace}
 use Rattle.faces.specs.Block.{writtenFace, faceWrote, writingFace}
+use Rattle.faces.specs.Inverted.{invertedFace, faceInverted, invertingFace}
 use Rattle.faces.specs.Place.{wordFace, unreadFace, readFace, placeFace}
 use Rattle.faces.specs.Text.{InOrder}
 use Rattle.faces.specs.declared.applied.MdfApplied.{MdfApplied}
+use Rattle.faces.specs.declared.inverted.MdfInverted.{MdfInverted}
 use Rattle.faces.specs.declared.place.MdfWord.{MdfWord}
 use Rattle.faces.specs.declared.written.MdfWritten.{MdfWritten}
 
@@ -35,6 +37,10 @@ faced r out c m called shown = ap (λ (x : MdfApplied). face x out) shown ∙ ap
 -- the same for the writer
 pub faced-writing : (r : Written) (out : List ℕ) (o : WriteCall) (m : MdfWritten) → writeCall r out ≡ o → m ≡ writtenFace r → faceWrote m out ≡ writingFace o
 faced-writing r out o m written shown = ap (λ (x : MdfWritten). faceWrote x out) shown ∙ ap writingFace written
+
+-- and for what makes an inverse
+pub faced-inverting : (r : Written) (out : List ℕ) (o : WriteCall) (m : MdfInverted) → writeCall r out ≡ o → m ≡ invertedFace r → faceInverted m out ≡ invertingFace o
+faced-inverting r out o m made shown = ap (λ (x : MdfInverted). faceInverted x out) shown ∙ ap invertingFace made
 
 -- a part that lies in the image ends where it starts or later
 pub ordered : (img : List ℕ) (s : Shown) → ShownIn img s → Ordered s

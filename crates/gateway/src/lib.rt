@@ -2,6 +2,7 @@
 pub mod applied;
 pub mod block;
 pub mod checked;
+pub mod inverted;
 pub mod moded;
 pub mod place;
 pub mod text;

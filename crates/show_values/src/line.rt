@@ -1,4 +1,5 @@
 // The line of a request: the conversion's name, the value, its answer, the two counts, and whether a malformed table of ranges was consulted.
+use crate::back;
 use crate::say;
 use crate::say::labelled;
 use crate::say::quoted;
@@ -21,6 +22,9 @@ use rules::number::Value;
 const LIMIT: u32 = 4096;
 
 const ROOM: usize = 4096;
+
+// The kind of a text that is asked back.
+const BACK: u64 = 5;
 
 // The links to a conversion's name and unit.
 struct Links {
@@ -150,7 +154,7 @@ fn counts(checked: u32, applied: u32, malformed: bool) {
 fn text_in(request: &[u8]) -> &[u8] {
     let length = word(request, 16) as usize;
     match word(request, 8) {
-        3 => part(request, 56, std::num::wrapping_add_usize(56, length)),
+        3 | 5 => part(request, 56, std::num::wrapping_add_usize(56, length)),
         _ => part(request, 56, 56),
     }
 }
@@ -168,8 +172,25 @@ fn convert(image: &[u8], r: Request, number: u64, width: u64, text: &[u8], lent:
     counts(x.checked, x.applied, x.malformed);
 }
 
+// The text is turned back by the inverse of the conversion, and the line is written.
+fn turn_back(image: &[u8], r: Request, text: &[u8]) {
+    let links = links_of(image, r.address);
+    title(image, links.name, r.address);
+    quoted(say::TEXT, text);
+    say(say::BACK);
+    let mut whole = io::large_buffer();
+    let x = back::ask(image, r.address, r.limit, text, &mut whole);
+    let a = x.answer;
+    answer(image, a, Value::Text, links.unit, text);
+    counts(x.checked, x.applied, x.malformed);
+}
+
 pub fn write(image: &[u8], request: &[u8]) {
     let r = Request::read(request);
+    if word(request, 8) == BACK {
+        turn_back(image, r, text_in(request));
+        return;
+    }
     let mut out = io::buffer();
     let width = word(request, 40);
     let number = word(request, 48);

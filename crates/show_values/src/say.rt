@@ -61,7 +61,11 @@ pub const EDITION: usize = 28;
 
 pub const POINT: usize = 29;
 
-const PHRASES: [u8; 600] = *b"00||................\
+pub const BACK: usize = 30;
+
+const AT_KEY: usize = 31;
+
+const PHRASES: [u8; 640] = *b"00||................\
     01| at |............\
     02|Address |........\
     03|: |..............\
@@ -90,7 +94,9 @@ const PHRASES: [u8; 600] = *b"00||................\
     26| table|..........\
     27| (width |........\
     28| (edition |......\
-    29|.|...............";
+    29|.|...............\
+    30| back|...........\
+    31| at key |........";
 
 pub fn say(k: usize) {
     lines::phrase::say(&PHRASES, k);
@@ -113,12 +119,18 @@ pub fn odd_table() {
     say(TABLE);
 }
 
-// The number and the name behind a phrase, and the address if there is one.
+// The number and the name behind a phrase, and the address or the key's index if there is one.
 pub fn refusal(k: usize, r: Refusal) {
     labelled(k, r.number() as u64);
     lines::phrase::name(r.number() as usize);
     match r.address() {
         Word::Bits(a) => labelled(AT, a),
         Word::NoWord => {}
+    }
+    match r {
+        Refusal::NotText(i) => labelled(AT_KEY, i as u64),
+        Refusal::Repeated(i) => labelled(AT_KEY, i as u64),
+        Refusal::Key(i) => labelled(AT_KEY, i as u64),
+        _ => {}
     }
 }

@@ -24,7 +24,8 @@ const VALUES: usize = 65535;
 // The bytes of a range.
 const RANGE: u64 = 16;
 
-fn put_fixed(block: Block, out: &mut [u8])
+// The fixed links, behind the header.
+pub fn put_fixed(block: Block, out: &mut [u8])
     requires { ⌜ 56 ≤ ListN.length (now out) ⌝ }
     ensures { λ _. ⌜ now (out .exit) ≡ put (now (out .entry)) 24 (fixedBytes block) ⌝ }
 {
@@ -34,7 +35,8 @@ fn put_fixed(block: Block, out: &mut [u8])
     words::put_u64(out, 48, block.inverse);
 }
 
-fn put_fields(block: Block, out: &mut [u8], at: usize, values: u16)
+// The eight bytes behind the references.
+pub fn put_fields(block: Block, out: &mut [u8], at: usize, values: u16)
     requires { ⌜ at + 8 ≤ ListN.length (now out) ⌝ }
     ensures { λ _. ⌜ now (out .exit) ≡ put (now (out .entry)) at (fieldBytes block values) ⌝ }
 {

@@ -50,6 +50,18 @@ enum-told-14 c = search needs
 enum-told-15 : tie.Need-enum-told-15
 enum-told-15 c = search needs
 
+enum-told-16 : tie.Need-enum-told-16
+enum-told-16 c = search needs
+
+enum-told-17 : tie.Need-enum-told-17
+enum-told-17 c = search needs
+
+enum-told-18 : tie.Need-enum-told-18
+enum-told-18 c = search needs
+
+enum-told-19 : tie.Need-enum-told-19
+enum-told-19 c = search needs
+
 returns : tie.Need-returns
 returns c = ap numberOf (sym (c .enum-told .given .1))
 
@@ -95,6 +107,18 @@ returns-14 c = ap numberOf (sym (c .enum-told14 .given .1))
 returns-15 : tie.Need-returns-15
 returns-15 c = ap numberOf (sym (c .enum-told15 .given .1))
 
+returns-16 : tie.Need-returns-16
+returns-16 c = ap numberOf (sym (c .enum-told16 .given .1))
+
+returns-17 : tie.Need-returns-17
+returns-17 c = ap numberOf (sym (c .enum-told17 .given .1))
+
+returns-18 : tie.Need-returns-18
+returns-18 c = ap numberOf (sym (c .enum-told18 .given .1))
+
+returns-19 : tie.Need-returns-19
+returns-19 c = ap numberOf (sym (c .enum-told19 .given .1))
+
 pub number-spec : {M : Type 1} → statement M
 number-spec =
     tie.close
@@ -114,6 +138,10 @@ number-spec =
     enum-told-13
     enum-told-14
     enum-told-15
+    enum-told-16
+    enum-told-17
+    enum-told-18
+    enum-told-19
     returns
     returns-2
     returns-3
@@ -128,4 +156,8 @@ number-spec =
     returns-12
     returns-13
     returns-14
-    returns-15)
+    returns-15
+    returns-16
+    returns-17
+    returns-18
+    returns-19)

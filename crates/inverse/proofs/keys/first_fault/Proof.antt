@@ -1,0 +1,63 @@
+-- `inverse::keys::first_fault` meets its contract. Assumes nothing.
+use mathlib.Core.Path.{_≡_, sym, ap, _∙_}
+use native.Mathlib.Omega.{arith}
+use denote.Ref.{now}
+use Rattle.inverse.specs.declared.keys.Fault.the-variants.{Faulty}
+use Rattle.inverse.proofs.Faults.{first-within, fault-places, fault-repeated, fault-unusable, faultless}
+use borrow.Author.Needs.{needs}
+use Rattle.inverse.proofs.keys.first_fault.Statement.{statement}
+use Rattle.inverse.proofs.keys.first_fault.Tie as tie
+
+cast-n : tie.Need-cast-n
+cast-n c = search needs
+
+first-doubted-requires : tie.Need-first-doubted-requires
+first-doubted-requires c κs = search needs
+
+first-repeat-requires : tie.Need-first-repeat-requires
+first-repeat-requires c κs = omega (arith, first-within _ _ _ (c .first-doubted .ensures))
+
+first-doubted-requires-2 : tie.Need-first-doubted-requires-2
+first-doubted-requires-2 c κs =
+    omega (arith, first-within _ _ _ (c .first-repeat .ensures), first-within _ _ _ (c .before .first-doubted .ensures))
+
+cast-t9 : tie.Need-cast-t9
+cast-t9 c =
+    let u = c .before .before .before in
+    omega (arith, first-within _ _ _ (u .first-doubted .ensures))
+
+returns : tie.Need-returns
+returns c =
+    let u = c .before .before .before in
+    let a = c .before .before .before .before .before .before .args in
+    sym (fault-repeated (now (a .image)) (a .b) _ _ _ _ (u .first-doubted .ensures) (c .before .before .first-repeat .ensures) (c .before .first-doubted2 .ensures) (c .if1 .taken))
+
+why-unusable-requires : tie.Need-why-unusable-requires
+why-unusable-requires c κs = search needs
+
+returns-2 : tie.Need-returns-2
+returns-2 c =
+    let u = c .before .before .before .before .before in
+    let a = c .before .before .before .before .before .before .before .before .args in
+    ap Faulty (c .why-unusable .ensures)
+    ∙ sym (fault-unusable (now (a .image)) (a .b) _ _ _ _ (u .first-doubted .ensures) (c .before .before .before .before .first-repeat .ensures) (c .before .before .before .first-doubted2 .ensures) (c .before .before .if1 .left) (c .before .if2 .taken))
+
+returns-3 : tie.Need-returns-3
+returns-3 c =
+    let u = c .before .before .before .before in
+    let a = c .before .before .before .before .before .before .before .args in
+    sym (faultless (now (a .image)) (a .b) _ _ _ _ (u .first-doubted .ensures) (c .before .before .before .first-repeat .ensures) (c .before .before .first-doubted2 .ensures) (c .before .if1 .left) (c .if2 .left))
+
+pub first-fault-spec : {M : Type 1} → statement M
+first-fault-spec =
+    tie.close
+    (tie.spec
+    cast-n
+    first-doubted-requires
+    first-repeat-requires
+    first-doubted-requires-2
+    cast-t9
+    returns
+    why-unusable-requires
+    returns-2
+    returns-3)

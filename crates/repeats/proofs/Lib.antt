@@ -1,0 +1,6 @@
+pub mod Common
+pub mod Rests
+pub mod Runs
+pub mod Numbers
+pub mod Chunks
+pub mod Firsts
