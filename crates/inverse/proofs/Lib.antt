@@ -1,3 +1,1 @@
-pub mod Firsts
-pub mod Faults
 pub mod Writing

@@ -26,10 +26,10 @@ use Rattle.blocks.specs.declared.Parsed.the-variants.{Whole, Refused}
 use Rattle.blocks.proofs.Opening.{parsed-whole}
 use Rattle.writer.specs.Write.{writeSize, fixedBytes, fieldBytes, frontBytes, blockBytes}
 use Rattle.writer.proofs.Writing.{front-parts, length-front, length-block}
-use Rattle.inverse.specs.Keys.{firstFault, KeysIn}
+use Rattle.keys.specs.Keys.{firstFault, KeysIn}
 use Rattle.inverse.specs.Invert.{inverseOf, inverseBytes, unlessFaulty, inverted, invertedAs, inverting, KeyPlaces}
-use Rattle.inverse.specs.declared.keys.Fault.{Fault}
-use Rattle.inverse.specs.declared.keys.Fault.the-variants.{Faulty, Faultless}
+use Rattle.keys.specs.declared.Fault.{Fault}
+use Rattle.keys.specs.declared.Fault.the-variants.{Faulty, Faultless}
 
 -- the i-th of the words from a place on
 pub word-of : (s : List ℕ) (first n i : ℕ) → i < n → getD (words s first n) i 0 ≡ word64 s (first + 8 * i)

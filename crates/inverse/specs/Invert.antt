@@ -17,9 +17,9 @@ use Rattle.blocks.specs.declared.Block.{Block}
 use Rattle.blocks.specs.declared.Parsed.{Parsed}
 use Rattle.blocks.specs.declared.Parsed.the-variants.{Whole, Refused}
 use Rattle.writer.specs.Write.{blockBytes}
-use Rattle.inverse.specs.Keys.{firstFault}
-use Rattle.inverse.specs.declared.keys.Fault.{Fault}
-use Rattle.inverse.specs.declared.keys.Fault.the-variants.{Faulty, Faultless}
+use Rattle.keys.specs.Keys.{firstFault}
+use Rattle.keys.specs.declared.Fault.{Fault}
+use Rattle.keys.specs.declared.Fault.the-variants.{Faulty, Faultless}
 
 -- the record of the new block: type 9, no inverse, no range, no padding
 abbrev pub inverseOf : Block → Block

@@ -2,8 +2,6 @@
 // crate.
 //
 // Nothing is copied but the block that is written: its references and values go from the image to the output as words, so that a key keeps its 64 bits.
-pub mod keys;
-
 use blocks::Block;
 use blocks::Parsed;
 use blocks::view::View;
@@ -60,7 +58,8 @@ fn put_inverse(b: Block, image: &[u8], out: &mut [u8])
     let n = b.valcount as usize;
     let place = 56 + 8 * n;
     let size = (place + 8 + 8 * n) as u64;
-    put_header(out, Header::CONVERSION, 0, size, Block::FIXED + (n as u64));
+    let links = Block::FIXED + (n as u64);
+    put_header(out, Header::CONVERSION, 0, size, links);
     put_fixed(made, out);
     put_words(out, 56, image, b.firstref as usize, n);
     put_fields(made, out, place, b.valcount);

@@ -10,7 +10,7 @@ use lib.Dec.{ltb}
 use Rattle.words.proofs.Clash.{clash}
 use Rattle.blocks.specs.declared.view.View.{View}
 use Rattle.repeats.specs.Repeats.{textAt}
-use Rattle.repeats.specs.Scan.{numbered, Agreed, Numbered, Held, Apart, Behind, Again, First, Searched}
+use Rattle.repeats.specs.Scan.{numbered, Agreed, Numbered, Held, Apart, Behind, Again, FirstRepeat, Gone}
 use Rattle.repeats.proofs.Numbers.{number-is}
 
 module _ (img : List ℕ) (b : View) (start : ℕ) where
@@ -71,7 +71,7 @@ module _ (img : List ℕ) (b : View) (start : ℕ) where
   -- ---- the chunk and what is behind it
   module _ (stop bound : ℕ) (ends : stop ≡ min bound (start + 255)) where
     -- one of the chunk's own
-    pub own : (r : ℕ) → r < stop → First img b start stop stop r → First img b start (start + 255) bound r
+    pub own : (r : ℕ) → r < stop → FirstRepeat img b start stop stop r → FirstRepeat img b start (start + 255) bound r
     own r less h =
         record {
           most = omega arith;
@@ -79,7 +79,7 @@ module _ (img : List ℕ) (b : View) (start : ℕ) where
           again = λ l. h .again less;
         }
 
-    pub whole : (s r : ℕ) → stop ≤ s → First img b start stop stop s → Searched img b start stop bound r → First img b start (start + 255) bound r
+    pub whole : (s r : ℕ) → stop ≤ s → FirstRepeat img b start stop stop s → Gone img b start stop bound r → FirstRepeat img b start (start + 255) bound r
     whole s r all h g = record { most = g .most; apart = apart; again = g .again }
       where
         apart : Apart img b start (start + 255) r
@@ -91,10 +91,10 @@ module _ (img : List ℕ) (b : View) (start : ℕ) where
 
 -- ---- over the chunks
 module _ (img : List ℕ) (b : View) (n : ℕ) where
-  pub first-none : First img b 0 0 n n
+  pub first-none : FirstRepeat img b 0 0 n n
   first-none = record { most = omega arith; apart = λ i j li lj low high e. omega arith; again = λ l. absurd (omega arith) }
 
-  pub first-more : (start bound r : ℕ) → First img b 0 start n bound → First img b start (start + 255) bound r → First img b 0 (start + 255) n r
+  pub first-more : (start bound r : ℕ) → FirstRepeat img b 0 start n bound → FirstRepeat img b start (start + 255) bound r → FirstRepeat img b 0 (start + 255) n r
   first-more start bound r h g = record { most = omega arith; apart = apart; again = again }
     where
       apart : Apart img b 0 (start + 255) r

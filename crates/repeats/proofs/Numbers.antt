@@ -8,8 +8,8 @@ use lib.ListN.{length, getD, set}
 use lib.Seq.{getD-set-same, getD-set-other}
 use Rattle.blocks.specs.declared.view.View.{View}
 use Rattle.repeats.specs.Repeats.{textAt}
-use Rattle.repeats.specs.Scan.{common, Through, numbered, Kept, Agreed}
-use Rattle.repeats.proofs.Common.{common-none}
+use Rattle.repeats.specs.Scan.{inCommon, Through, numbered, Kept, Agreed}
+use Rattle.repeats.proofs.Common.{in-common-none}
 
 module _ (img : List ℕ) (b : View) (start : ℕ) where
   -- the index of a number
@@ -30,20 +30,20 @@ module _ (img : List ℕ) (b : View) (start : ℕ) where
       record {
         third = p;
         one = sym (agreed (getD below k 0) (w .0) .0);
-        other = ap (λ (t : List ℕ). common t p) (sym n) ∙ sym (w .1);
+        other = ap (λ (t : List ℕ). inCommon t p) (sym n) ∙ sym (w .1);
         behind = w .2 ∙ ap (λ (t : List ℕ). getD t (getD shared k 0) 0) n;
       }
 
   pub agreed-none : (q agree : List ℕ) → 0 < length agree → Agreed img b start q (set agree 0 0) 1
   unfolding numbered
-  agreed-none q agree h zero l = (getD-set-same agree 0 0 0 h ∙ sym (common-none q), λ p. absurd (omega arith))
+  agreed-none q agree h zero l = (getD-set-same agree 0 0 0 h ∙ sym (in-common-none q), λ p. absurd (omega arith))
   agreed-none q agree h (suc k) l = absurd (omega arith)
 
   pub agreed-more : (q agree : List ℕ) (k m : ℕ) → k < length agree → Agreed img b start q agree k
-      → (common q (numbered img b start k) ≡ m) × (q ≡ numbered img b start k → ⊥) → Agreed img b start q (set agree k m) (k + 1)
+      → (inCommon q (numbered img b start k) ≡ m) × (q ≡ numbered img b start k → ⊥) → Agreed img b start q (set agree k m) (k + 1)
   agreed-more q agree k m h old new =
       below-more
-      (λ (j : ℕ). (getD (set agree k m) j 0 ≡ common q (numbered img b start j)) × (0 < j → q ≡ numbered img b start j → ⊥))
+      (λ (j : ℕ). (getD (set agree k m) j 0 ≡ inCommon q (numbered img b start j)) × (0 < j → q ≡ numbered img b start j → ⊥))
       k
       (λ j l. (getD-set-other agree k j m 0 (λ e. omega (arith, e)) ∙ old j l .0, old j l .1))
       (getD-set-same agree k m 0 h ∙ sym (new .0), λ p. new .1)
@@ -57,13 +57,13 @@ module _ (img : List ℕ) (b : View) (start : ℕ) where
       below-more
       (λ (i : ℕ). 0 < i
       → (getD (set below m j) i 0 < i)
-      × (getD (set shared m s) i 0 ≡ common (numbered img b start i) (numbered img b start (getD (set below m j) i 0)))
+      × (getD (set shared m s) i 0 ≡ inCommon (numbered img b start i) (numbered img b start (getD (set below m j) i 0)))
       × (getD (set marks m w) i 0 ≡ getD (numbered img b start i) (getD (set shared m s) i 0) 0))
       m old new k last some
     where
       old : (i : ℕ) → i < m → 0 < i
           → (getD (set below m j) i 0 < i)
-          × (getD (set shared m s) i 0 ≡ common (numbered img b start i) (numbered img b start (getD (set below m j) i 0)))
+          × (getD (set shared m s) i 0 ≡ inCommon (numbered img b start i) (numbered img b start (getD (set below m j) i 0)))
           × (getD (set marks m w) i 0 ≡ getD (numbered img b start i) (getD (set shared m s) i 0) 0)
       old i l p =
           rw (
@@ -75,11 +75,11 @@ module _ (img : List ℕ) (b : View) (start : ℕ) where
 
       new : 0 < m
           → (getD (set below m j) m 0 < m)
-          × (getD (set shared m s) m 0 ≡ common (numbered img b start m) (numbered img b start (getD (set below m j) m 0)))
+          × (getD (set shared m s) m 0 ≡ inCommon (numbered img b start m) (numbered img b start (getD (set below m j) m 0)))
           × (getD (set marks m w) m 0 ≡ getD (numbered img b start m) (getD (set shared m s) m 0) 0)
       new p =
           rw (getD-set-same below m j 0 lb, getD-set-same shared m s 0 ls, getD-set-same marks m w 0 lm) (
             less,
-            es ∙ agreed j less .0 ∙ ap (λ (t : List ℕ). common t (numbered img b start j)) e,
+            es ∙ agreed j less .0 ∙ ap (λ (t : List ℕ). inCommon t (numbered img b start j)) e,
             ew ∙ ap (λ (t : List ℕ). getD t s 0) e,
           )

@@ -14,10 +14,10 @@ use Rattle.repeats.specs.declared.Met.{Met}
 use Rattle.repeats.specs.declared.Met.the-variants.{Same, Upto}
 
 -- how many leading bytes two texts have in common
-unfoldable pub common : List ℕ → List ℕ → ℕ
-common [] ys = 0
-common (x ∷ xs) [] = 0
-common (x ∷ xs) (y ∷ ys) = cond (eqb x y) (suc (common xs ys)) 0
+unfoldable pub inCommon : List ℕ → List ℕ → ℕ
+inCommon [] ys = 0
+inCommon (x ∷ xs) [] = 0
+inCommon (x ∷ xs) (y ∷ ys) = cond (eqb x y) (suc (inCommon xs ys)) 0
 
 -- the text of a run, and that the run lies in the image
 unfoldable pub runText : List ℕ → Run → List ℕ
@@ -34,13 +34,13 @@ pub record RunOf (img : List ℕ) (b : View) (i : ℕ) (t : Run) : Type 0 where
 -- two texts compared: the same, or so many bytes in common and not the same
 abbrev pub MetBy : List ℕ → List ℕ → Met → Type 0
 MetBy q t Same = q ≡ t
-MetBy q t (Upto m) = (common q t ≡ m) × (q ≡ t → ⊥)
+MetBy q t (Upto m) = (inCommon q t ≡ m) × (q ≡ t → ⊥)
 
 -- what is known of two texts by a third: q has a bytes in common with it and t has s, behind which t has the byte `mark`
 pub record Through (q t : List ℕ) (a s mark : ℕ) : Type 0 where
   pub third : List ℕ
-  pub one : common q third ≡ a
-  pub other : common t third ≡ s
+  pub one : inCommon q third ≡ a
+  pub other : inCommon t third ≡ s
   pub behind : mark ≡ getD t s 0
 
 -- the texts of a chunk by number: 0 is the empty text, and 1 the text of the index `start`
@@ -53,17 +53,17 @@ abbrev pub Kept : List ℕ → View → ℕ → List ℕ → List ℕ → List �
 Kept img b start below shared marks m =
     (k : ℕ) → 0 < k → k < m
     → (getD below k 0 < k)
-    × (getD shared k 0 ≡ common (numbered img b start k) (numbered img b start (getD below k 0)))
+    × (getD shared k 0 ≡ inCommon (numbered img b start k) (numbered img b start (getD below k 0)))
     × (getD marks k 0 ≡ getD (numbered img b start k) (getD shared k 0) 0)
 
 -- the four arrays of a chunk have a place for each number
-abbrev pub Sized : List ℕ → List ℕ → List ℕ → List ℕ → Type 0
-Sized below shared marks agree = (length below ≡ 256) × (length shared ≡ 256) × (length marks ≡ 256) × (length agree ≡ 256)
+abbrev pub Rows : List ℕ → List ℕ → List ℕ → List ℕ → Type 0
+Rows below shared marks agree = (length below ≡ 256) × (length shared ≡ 256) × (length marks ≡ 256) × (length agree ≡ 256)
 
 -- how much the text q has in common with each number under m; it is the text of none
 abbrev pub Agreed : List ℕ → View → ℕ → List ℕ → List ℕ → ℕ → Type 0
 Agreed img b start q agree m =
-    (k : ℕ) → k < m → (getD agree k 0 ≡ common q (numbered img b start k)) × (0 < k → q ≡ numbered img b start k → ⊥)
+    (k : ℕ) → k < m → (getD agree k 0 ≡ inCommon q (numbered img b start k)) × (0 < k → q ≡ numbered img b start k → ⊥)
 
 -- the text q is that of a number under m
 pub record Numbered (img : List ℕ) (b : View) (start : ℕ) (q : List ℕ) (m : ℕ) : Type 0 where
@@ -102,7 +102,7 @@ pub record Again (img : List ℕ) (b : View) (r : ℕ) : Type 0 where
   pub same : textAt img b earlier ≡ textAt img b r
 
 -- r is `bound`, or the text there is equal to an earlier one; none under r is equal to an earlier one from low up to high
-pub record First (img : List ℕ) (b : View) (low high bound r : ℕ) : Type 0 where
+pub record FirstRepeat (img : List ℕ) (b : View) (low high bound r : ℕ) : Type 0 where
   pub most : r ≤ bound
   pub apart : Apart img b low high r
   pub again : r < bound → Again img b r
@@ -110,11 +110,11 @@ pub record First (img : List ℕ) (b : View) (low high bound r : ℕ) : Type 0 w
 -- the chunk's own texts gone through up to r
 pub record Filled (img : List ℕ) (b : View) (start stop : ℕ) (below shared marks : List ℕ) (r : ℕ) : Type 0 where
   pub least : start ≤ r
-  pub first : First img b start stop stop r
+  pub first : FirstRepeat img b start stop stop r
   pub kept : Kept img b start below shared marks (r - start + 1)
 
 -- the texts behind the chunk gone through up to r
-pub record Searched (img : List ℕ) (b : View) (start stop bound r : ℕ) : Type 0 where
+pub record Gone (img : List ℕ) (b : View) (start stop bound r : ℕ) : Type 0 where
   pub least : stop ≤ r
   pub most : r ≤ bound
   pub apart : Behind img b start stop r

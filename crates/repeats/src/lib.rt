@@ -13,7 +13,7 @@ ghost use mathlib.Core.Path.{_≡_};
 ghost use Prim.Native.Nat.{_+_, _-_, min, _≤_, _<_};
 ghost use lib.ListN.{length, getD};
 ghost use Rattle.repeats.specs.Repeats.{textAt, textRepeated, firstOf};
-ghost use Rattle.repeats.specs.Scan.{common, runText, RunIn, RunOf, MetBy, Through, Sized, Kept, Held, Within, Grown, First, Filled, Searched};
+ghost use Rattle.repeats.specs.Scan.{inCommon, runText, RunIn, RunOf, MetBy, Through, Rows, Kept, Held, Within, Grown, FirstRepeat, Filled, Gone};
 
 // Where a text may run in the image; it ends at the first zero byte there.
 pub struct Run {
@@ -63,7 +63,7 @@ fn byte_at(image: &[u8], t: Run, i: usize) -> u16
 
 // Two texts that have their first `a` bytes in common, compared from there on.
 fn compare(image: &[u8], x: Run, y: Run, a: usize) -> Met
-    requires { ⌜ RunIn (now image) x × RunIn (now image) y × (a ≤ common (runText (now image) x) (runText (now image) y)) ⌝ }
+    requires { ⌜ RunIn (now image) x × RunIn (now image) y × (a ≤ inCommon (runText (now image) x) (runText (now image) y)) ⌝ }
     ensures { λ r. ⌜ MetBy (runText (now (image .entry)) x) (runText (now (image .entry)) y) r ⌝ }
 {
     let mut i = a;
@@ -119,7 +119,7 @@ fn hold(
     count: usize,
 ) -> bool
     requires { ⌜ RunIn (now image) q × (start ≤ 65535) × (0 < count) × (count ≤ 256) ⌝ }
-    requires { ⌜ Sized (now below) (now shared) (now marks) (now agree) ⌝ }
+    requires { ⌜ Rows (now below) (now shared) (now marks) (now agree) ⌝ }
     requires { ⌜ Kept (now image) b start (now below) (now shared) (now marks) count ⌝ }
     ensures { λ r. ⌜ Held (now (image .entry)) b start (runText (now (image .entry)) q) (now (agree .exit)) count r ⌝ }
 {
@@ -168,7 +168,7 @@ fn note(
     marks: &mut [u16],
 )
     requires { ⌜ RunIn (now image) q × (0 < count) × (count < 256) × Within (runText (now image) q) (now agree) count ⌝ }
-    requires { ⌜ Sized (now below) (now shared) (now marks) (now agree) ⌝ }
+    requires { ⌜ Rows (now below) (now shared) (now marks) (now agree) ⌝ }
     ensures { λ _. ⌜ Grown (now (image .entry)) (runText (now (image .entry)) q) (now (agree .entry)) count
         (now (below .entry)) (now (shared .entry)) (now (marks .entry)) (now (below .exit)) (now (shared .exit)) (now (marks .exit)) ⌝ }
 {
@@ -191,7 +191,7 @@ fn fill(
     agree: &mut [usize],
 ) -> usize
     requires { ⌜ (start ≤ stop) × (stop ≤ 65535) × (stop ≤ start + 255) ⌝ }
-    requires { ⌜ Sized (now below) (now shared) (now marks) (now agree) ⌝ }
+    requires { ⌜ Rows (now below) (now shared) (now marks) (now agree) ⌝ }
     ensures { λ r. ⌜ Filled (now (image .entry)) b start stop (now (below .exit)) (now (shared .exit)) (now (marks .exit)) r ⌝ }
 {
     let mut i = start;
@@ -220,9 +220,9 @@ fn search(
     agree: &mut [usize],
 ) -> usize
     requires { ⌜ (start ≤ stop) × (stop ≤ start + 255) × (stop ≤ bound) × (bound ≤ 65535) ⌝ }
-    requires { ⌜ Sized (now below) (now shared) (now marks) (now agree) ⌝ }
+    requires { ⌜ Rows (now below) (now shared) (now marks) (now agree) ⌝ }
     requires { ⌜ Kept (now image) b start (now below) (now shared) (now marks) (stop - start + 1) ⌝ }
-    ensures { λ r. ⌜ Searched (now (image .entry)) b start stop bound r ⌝ }
+    ensures { λ r. ⌜ Gone (now (image .entry)) b start stop bound r ⌝ }
 {
     let count = stop - start + 1;
     let mut i = stop;
@@ -251,7 +251,7 @@ fn stop_of(start: usize, bound: usize) -> usize
 // The first text under `bound` that is equal to an earlier one of the chunk that begins at `start`, or `bound`.
 fn repeat_of(image: &[u8], b: View, start: usize, bound: usize) -> usize
     requires { ⌜ (start ≤ bound) × (bound ≤ 65535) ⌝ }
-    ensures { λ r. ⌜ First (now (image .entry)) b start (start + 255) bound r ⌝ }
+    ensures { λ r. ⌜ FirstRepeat (now (image .entry)) b start (start + 255) bound r ⌝ }
 {
     // Filled with numbers that are known only at run time: with a constant, or with a byte, the compiler would call the C library's memset,
     // and the archive calls no library.

@@ -24,11 +24,11 @@ use Rattle.blocks.specs.declared.Parsed.{Parsed}
 use Rattle.blocks.specs.declared.Parsed.the-variants.{Whole, Refused}
 use Rattle.writer.specs.Write.{blockBytes}
 use Rattle.repeats.specs.Repeats.{textAt}
-use Rattle.inverse.specs.Keys.{keyAt, firstFault}
+use Rattle.keys.specs.Keys.{keyAt, firstFault}
 use Rattle.inverse.specs.Invert.{inverseOf, inverseBytes, unlessFaulty, inverted, invertedAs, inverting}
-use Rattle.inverse.specs.declared.keys.Fault.{Fault}
-use Rattle.inverse.specs.declared.keys.Fault.the-variants.{Faulty, Faultless}
-use Rattle.inverse.proofs.Faults.{references-enough}
+use Rattle.keys.specs.declared.Fault.{Fault}
+use Rattle.keys.specs.declared.Fault.the-variants.{Faulty, Faultless}
+use Rattle.keys.proofs.Faults.{references-enough}
 use Rattle.inverse.proofs.Writing.{length-inverse, block-is}
 use Rattle.rules.specs.declared.number.Value.the-variants as given
 use Rattle.steps.specs.declared.mode.Mode.{Mode}

@@ -44,11 +44,11 @@ use Rattle.writer.specs.Write.{writeSize, blockBytes}
 use Rattle.writer.specs.Stored.{stored, Sized}
 use Rattle.writer.proofs.ParseWritten.{parse-written, references-written, values-written}
 use Rattle.repeats.specs.Repeats.{leadText, textAt, textAmong, textRepeated, firstOf}
-use Rattle.inverse.specs.Keys.{keyAt, isEmpty, firstFault}
+use Rattle.keys.specs.Keys.{keyAt, isEmpty, firstFault}
 use Rattle.inverse.specs.Invert.{inverseOf, KeyPlaces}
-use Rattle.inverse.specs.declared.keys.Fault.the-variants.{Faultless}
-use Rattle.inverse.proofs.Firsts.{First, first-is}
-use Rattle.inverse.proofs.Faults.{all-sound, IsSound, sound-is, references-enough}
+use Rattle.keys.specs.declared.Fault.the-variants.{Faultless}
+use Rattle.repeats.proofs.Firsts.{same-itself, same-is, among-some, is-first}
+use Rattle.keys.proofs.Faults.{all-sound, IsSound, sound-is, references-enough}
 use Rattle.inverse.proofs.Writing.{key-places}
 use Rattle.tree.specs.Walk.{checked}
 use Rattle.tree.specs.Tree.{leadsIn, sizes, size, Each, Sound}
@@ -66,83 +66,19 @@ use Rattle.conversion.specs.declared.logic.Answer.the-variants as answer
 use Rattle.conversion.proofs.Demand.{after-check}
 use Rattle.restored.proofs.Appended.{IsRun, is-run, bytes-first, run-first, no-conversion}
 
--- ---- a list is the same as itself
-same-itself : (xs : List ℕ) → sameBytes xs xs ≡ true
-unfolding sameBytes
-same-itself [] = refl
-same-itself (x ∷ xs) = rw (eq-eqb x x refl) (same-itself xs)
-
-same-lists : (xs ys : List ℕ) → sameBytes xs ys ≡ true → xs ≡ ys
-unfolding sameBytes
-same-lists [] [] e = refl
-same-lists [] (y ∷ ys) e = clash cc
-same-lists (x ∷ xs) [] e = clash cc
-same-lists (x ∷ xs) (y ∷ ys) e = go (eqb x y) refl e (same-lists xs ys)
-  where
-    go : (b : Bool) → eqb x y ≡ b → cond b (sameBytes xs ys) false ≡ true → (sameBytes xs ys ≡ true → xs ≡ ys) → (x ∷ xs) ≡ (y ∷ ys)
-    go true t q rest = ap (λ (z : ℕ). z ∷ xs) (eqb-true x y t) ∙ ap (λ (zs : List ℕ). y ∷ zs) (rest q)
-    go false t q rest = clash cc
-
+-- ---- a text that is not the same
 not-same : (xs ys : List ℕ) → (xs ≡ ys → ⊥) → sameBytes xs ys ≡ false
 not-same xs ys h = go (sameBytes xs ys) refl
   where
     go : (b : Bool) → sameBytes xs ys ≡ b → b ≡ false
-    go true e = absurd (h (same-lists xs ys e))
+    go true e = absurd (h (same-is xs ys e))
     go false e = refl
-
--- none of those before is equal
-among-none : (img : List ℕ) (b : View) (i n : ℕ) → textAmong img b i n ≡ false → (j : ℕ) → j < n → sameBytes (textAt img b j) (textAt img b i) ≡ false
-unfolding textAmong
-among-none img b i zero e j h = absurd (omega arith)
-among-none img b i (suc n) e j h =
-    go (textAmong img b i n) (sameBytes (textAt img b n) (textAt img b i)) refl refl e (ltb j n) refl (λ p q. among-none img b i n p j q)
-  where
-    go : (x y : Bool) → textAmong img b i n ≡ x → sameBytes (textAt img b n) (textAt img b i) ≡ y → (x || y) ≡ false → (c : Bool) → ltb j n ≡ c
-        → (textAmong img b i n ≡ false → j < n → sameBytes (textAt img b j) (textAt img b i) ≡ false)
-        → sameBytes (textAt img b j) (textAt img b i) ≡ false
-    go true y p q r c t rest = clash cc
-    go false true p q r c t rest = clash cc
-    go false false p q r true t rest = rest p (ltb-true j n t)
-    go false false p q r false t rest =
-        let same : n ≡ j = omega (arith, ltb-false j n t, h) in
-        ap (λ (k : ℕ). sameBytes (textAt img b k) (textAt img b i)) (sym same) ∙ q
 
 -- ---- the search for a text, by where the first lies
 search-is : (img : List ℕ) (b : View) (t : List ℕ) (j n : ℕ) → firstText img b t 1 j n ≡ firstOf (λ k. isKey img t (leadAt img b (1 * k))) j n
 unfolding firstText firstOf
 search-is img b t j zero = refl
 search-is img b t j (suc n) = ap (λ (k : ℕ). cond (isKey img t (leadAt img b (1 * j))) j k) (search-is img b t (j + 1) n)
-
-found-at : (p : ℕ → Bool) (n i : ℕ) → i < n → p i ≡ true → ((j : ℕ) → j < i → p j ≡ false) → firstOf p 0 n ≡ i
-found-at p n i h here before = go (ltb (firstOf p 0 n) i) refl (ltb i (firstOf p 0 n)) refl
-  where
-    f : First p 0 n (firstOf p 0 n)
-    f = first-is p 0 n
-
-    go : (x : Bool) → ltb (firstOf p 0 n) i ≡ x → (y : Bool) → ltb i (firstOf p 0 n) ≡ y → firstOf p 0 n ≡ i
-    go true s y t =
-        let less = ltb-true (firstOf p 0 n) i s in
-        let held : p (firstOf p 0 n) ≡ true = f .here (omega (arith, less, h)) in
-        let none = before (firstOf p 0 n) less in
-        clash cc
-    go false s true t =
-        let none : p i ≡ false = f .before i (omega arith) (ltb-true i (firstOf p 0 n) t) in
-        clash cc
-    go false s false t = omega (arith, ltb-false (firstOf p 0 n) i s, ltb-false i (firstOf p 0 n) t)
-
-found-nowhere : (p : ℕ → Bool) (n : ℕ) → ((j : ℕ) → j < n → p j ≡ false) → firstOf p 0 n ≡ n
-found-nowhere p n none = go (ltb (firstOf p 0 n) n) refl
-  where
-    f : First p 0 n (firstOf p 0 n)
-    f = first-is p 0 n
-
-    go : (x : Bool) → ltb (firstOf p 0 n) n ≡ x → firstOf p 0 n ≡ n
-    go true s =
-        let less = ltb-true (firstOf p 0 n) n s in
-        let held : p (firstOf p 0 n) ≡ true = f .here (omega (arith, less)) in
-        let not-held = none (firstOf p 0 n) less in
-        clash cc
-    go false s = omega (arith, ltb-false (firstOf p 0 n) n s, f .to)
 
 -- ---- a link that gives a text
 no-text-nested : (img : List ℕ) (link : ℕ) → leadText img (nestedAt img link) ≡ []
@@ -258,6 +194,9 @@ module _ (img : List ℕ) (h : Bytes img) (a : ℕ) (b : Block) (whole : parsed 
 
     key-sound : IsSound img (viewOf b) i
     key-sound = sound-is img (viewOf b) i (all-sound img (viewOf b) 0 n sound i (omega arith) (omega (arith, less)))
+
+    unlike : textRepeated img (viewOf b) i ≡ true → ⊥
+    unlike e = let not-again = key-sound .unlike in clash cc
 
     old-reference : referenceIn img (viewOf b) i ≡ Bits link
     unfolding referenceIn referenceOf
@@ -394,9 +333,10 @@ module _ (img : List ℕ) (h : Bytes img) (a : ℕ) (b : Block) (whole : parsed 
   key-restored i less mode l h o =
       let t = textAt img (viewOf b) i in
       let before : (j : ℕ) → j < i → isKey image t (leadAt image (viewOf new) (1 * j)) ≡ false =
-      λ j k. new-key j (omega (arith, k, less)) t ∙ among-none img (viewOf b) i i (key-sound i less .unlike) j k in
+      λ j k. new-key j (omega (arith, k, less)) t ∙ not-same (textAt img (viewOf b) j) t (λ e. unlike i less (among-some img (viewOf b) i i j k e)) in
       let found : valueKey image (viewOf new) t ≡ i =
-      key-found t ∙ found-at (λ j. isKey image t (leadAt image (viewOf new) (1 * j))) n i less (new-key i less t ∙ same-itself t) before in
+      key-found t
+      ∙ sym (is-first (λ j. isKey image t (leadAt image (viewOf new) (1 * j))) n 0 i (omega arith) (omega (arith, less)) (λ j h k. before j k) (λ k. new-key i less t ∙ same-itself t)) in
       answered mode l h t o (Value (keyAt img (viewOf b) i)) (ap (valueIn image (viewOf new)) found ∙ new-value i less)
 
   -- and the key is the same 64 bits
@@ -411,5 +351,7 @@ module _ (img : List ℕ) (h : Bytes img) (a : ℕ) (b : Block) (whole : parsed 
   unfolding settled answerIn outputAfter
   other-unknown t none mode l h o =
       let found : valueKey image (viewOf new) t ≡ n =
-      key-found t ∙ found-nowhere (λ j. isKey image t (leadAt image (viewOf new) (1 * j))) n (λ j k. new-key j k t ∙ not-same (textAt img (viewOf b) j) t (none j k)) in
+      key-found t
+      ∙ sym (is-first (λ j. isKey image t (leadAt image (viewOf new) (1 * j))) n 0 n (omega arith) (omega arith)
+      (λ j h k. new-key j k t ∙ not-same (textAt img (viewOf b) j) t (none j k)) (λ k. absurd (omega (arith, k)))) in
       answered mode l h t o NoValue (ap (valueIn image (viewOf new)) found ∙ no-more-values)

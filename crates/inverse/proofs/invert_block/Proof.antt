@@ -8,9 +8,9 @@ use Prim.Native.Nat.{ℕ}
 use Rattle.blocks.specs.View.{viewOf}
 use Rattle.blocks.specs.declared.view.View.{View}
 use Rattle.common.specs.Written.{holding}
-use Rattle.inverse.specs.Keys.{firstFault, KeysIn}
-use Rattle.inverse.specs.declared.keys.Fault.the-variants.{Faulty, Faultless}
-use Rattle.inverse.proofs.Faults.{references-enough}
+use Rattle.keys.specs.Keys.{firstFault, KeysIn}
+use Rattle.keys.specs.declared.Fault.the-variants.{Faulty, Faultless}
+use Rattle.keys.proofs.Faults.{references-enough}
 use Rattle.inverse.proofs.Writing.{keys-in, key-places, block-is, other-type, of-fault, fault-seen}
 use borrow.Author.Needs.{needs}
 use Rattle.inverse.proofs.invert_block.Statement.{statement}

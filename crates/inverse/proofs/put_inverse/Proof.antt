@@ -28,8 +28,8 @@ mul-size c = search needs
 add-size-2 : tie.Need-add-size-2
 add-size-2 c = search needs
 
-add-put-header : tie.Need-add-put-header
-add-put-header c = search needs
+add-links : tie.Need-add-links
+add-links c = search needs
 
 put-header-requires : tie.Need-put-header-requires
 put-header-requires c κs = search needs
@@ -70,7 +70,7 @@ put-inverse-spec =
     add-size
     mul-size
     add-size-2
-    add-put-header
+    add-links
     put-header-requires
     put-fixed-requires
     put-words-requires

@@ -1,7 +1,7 @@
 -- `repeats::first_repeat` meets its contract. The chunks before `start` have been gone through. Assumes nothing.
 use Prim.Native.Nat.{_-_}
 use denote.Ref.{now}
-use Rattle.repeats.specs.Scan.{First}
+use Rattle.repeats.specs.Scan.{FirstRepeat}
 use Rattle.repeats.proofs.Chunks.{first-none, first-more}
 use Rattle.repeats.proofs.Firsts.{first-found}
 use borrow.Author.Needs.{needs}
@@ -9,7 +9,7 @@ use Rattle.repeats.proofs.first_repeat.Statement.{statement}
 use Rattle.repeats.proofs.first_repeat.Tie as tie
 
 abbrev Inv-loop : tie.InvT-loop
-Inv-loop image b n bound₀ start₀ bound start = First image b 0 start n bound
+Inv-loop image b n bound₀ start₀ bound start = FirstRepeat image b 0 start n bound
 
 abbrev μ-loop : tie.MeasureT-loop
 μ-loop image b n bound₀ start₀ bound start = bound - start

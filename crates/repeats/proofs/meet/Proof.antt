@@ -5,7 +5,7 @@ use Prim.Native.Nat.{ℕ, _≤_}
 use native.Mathlib.Omega.{arith}
 use denote.Ref.{now}
 use Rattle.repeats.specs.Repeats.{textAt}
-use Rattle.repeats.specs.Scan.{common, runText, MetBy}
+use Rattle.repeats.specs.Scan.{inCommon, runText, MetBy}
 use Rattle.repeats.proofs.Common.{meets-first, meets-later, meets-both, meets-mark, meets-within}
 use Rattle.repeats.proofs.Runs.{one-run}
 use borrow.Author.Needs.{needs}
@@ -55,7 +55,7 @@ compare-requires c κs =
     let s = r .before .before .before .before .before .before in (
       s .pre .0,
       r .run-at .ensures .inner,
-      subst (λ (t : List ℕ). s .args .a ≤ common (asked s) t) (sym (r .run-at .ensures .text))
+      subst (λ (t : List ℕ). s .args .a ≤ inCommon (asked s) t) (sym (r .run-at .ensures .text))
           (meets-both (asked s) (other s) (s .args .a) (s .args .s) (s .args .mark) (s .pre .1) (omega arith)),
     )
 

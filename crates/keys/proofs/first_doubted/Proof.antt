@@ -1,14 +1,15 @@
--- `inverse::keys::first_doubted` meets its contract. Assumes nothing.
+-- `keys::first_doubted` meets its contract. Assumes nothing.
 use mathlib.Core.Path.{_≡_, sym, ap, _∙_}
 use Prim.Native.Nat.{_+_, _-_, _≤_}
 use native.Mathlib.Omega.{arith}
 use denote.Ref.{now}
 use Rattle.repeats.specs.Repeats.{firstOf}
-use Rattle.inverse.specs.Keys.{doubted}
-use Rattle.inverse.proofs.Firsts.{first-here, first-later, first-none}
+use Rattle.keys.specs.Keys.{doubted}
+use Rattle.keys.proofs.Faults.{askable-less}
+use Rattle.repeats.proofs.Firsts.{first-here, first-later, first-none}
 use borrow.Author.Needs.{needs}
-use Rattle.inverse.proofs.keys.first_doubted.Statement.{statement}
-use Rattle.inverse.proofs.keys.first_doubted.Tie as tie
+use Rattle.keys.proofs.first_doubted.Statement.{statement}
+use Rattle.keys.proofs.first_doubted.Tie as tie
 
 abbrev Inv-loop : tie.InvT-loop
 Inv-loop image b doubt n i₀ i = (i ≤ n) × (firstOf (doubted image b doubt) 0 n ≡ firstOf (doubted image b doubt) i (n - i))
@@ -23,7 +24,9 @@ loop-holds c =
     (omega arith, ap (firstOf (doubted (now (s .image)) (s .b) (s .doubt)) 0) e)
 
 is-doubted-requires : tie.Need-is-doubted-requires Inv-loop μ-loop
-is-doubted-requires c κs = search needs
+is-doubted-requires c κs =
+    let s = c .before .before .before in
+    askable-less (now (s .args .image)) (s .args .b) (s .args .doubt) (c .before .loop .i + 1) (s .args .n) (omega arith) (s .pre)
 
 returns : tie.Need-returns Inv-loop μ-loop
 returns c =

@@ -1,4 +1,4 @@
--- `inverse::keys::is_empty_run` meets its contract. Assumes nothing.
+-- `keys::is_empty_run` meets its contract. Assumes nothing.
 use mathlib.Core.Path.{_≡_, sym}
 use mathlib.Core.Bool.{Bool, true, false}
 use Prim.Native.Nat.{ℕ}
@@ -7,10 +7,10 @@ use borrow.Author.Tests.{eqb-true, eqb-false}
 use denote.Ref.{now}
 use lib.Dec.{eqb}
 use lib.ListN.{getD}
-use Rattle.inverse.proofs.Faults.{empty-run, first-byte-tells}
+use Rattle.keys.proofs.Faults.{empty-run, first-byte-tells}
 use borrow.Author.Needs.{needs}
-use Rattle.inverse.proofs.keys.is_empty_run.Statement.{statement}
-use Rattle.inverse.proofs.keys.is_empty_run.Tie as tie
+use Rattle.keys.proofs.is_empty_run.Statement.{statement}
+use Rattle.keys.proofs.is_empty_run.Tie as tie
 
 shared-slice-read-result : tie.Need-shared-slice-read-result
 shared-slice-read-result c = search needs

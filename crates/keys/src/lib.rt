@@ -4,14 +4,14 @@ use common::refusal::Refusal;
 use leads::lead::Lead;
 use leads::lead::lead_at;
 use repeats::first_repeat;
-use rules::search::search_key;
 ghost use mathlib.Core.Path.{_≡_};
+ghost use mathlib.Core.Bool.{false};
 ghost use Prim.Native.Nat.{_+_, _*_, _≤_, _<_};
 ghost use lib.Ieee.{isNan};
 ghost use Rattle.words.specs.Words.{word64, PartIn};
 ghost use Rattle.common.specs.Text.{textBytes};
 ghost use Rattle.repeats.specs.Repeats.{textAt, firstOf};
-ghost use Rattle.inverse.specs.Keys.{keyAt, keyAmong, isEmpty, unusable, whyUnusable, firstFault, doubted, KeysIn};
+ghost use Rattle.keys.specs.Keys.{keyAt, keyAmong, isEmpty, unusable, whyUnusable, firstFault, doubted, KeysIn, Numbers, Askable};
 
 // Why a key cannot be taken, if it cannot.
 pub enum Fault {
@@ -74,17 +74,32 @@ fn is_unusable(image: &[u8], b: View, i: usize) -> bool
     }
 }
 
-// Whether the i-th key is equal to an earlier one. It is no NaN.
+// The i-th key as a float. It is no NaN, so its bits need no test.
+fn number_at(image: &[u8], b: View, i: usize) -> f64
+    requires { ⌜ KeysIn (now image) b (i + 1) × (isNan (keyAt (now image) b i) ≡ false) ⌝ }
+    ensures { λ r. ⌜ r ≡ keyAt (now (image .entry)) b i ⌝ }
+{
+    f64::from_bits(key_word(image, b, i))
+}
+
+// Whether the i-th key is equal to an earlier one, as a float: 0 and -0 are equal. All before it are looked at, so that the machine can look at many at a
+// time.
 fn is_repeated_key(image: &[u8], b: View, i: usize) -> bool
-    requires { ⌜ KeysIn (now image) b (i + 1) ⌝ }
+    requires { ⌜ KeysIn (now image) b (i + 1) × Numbers (now image) b (i + 1) ⌝ }
     ensures { λ r. ⌜ r ≡ keyAmong (now (image .entry)) b i i ⌝ }
 {
-    let key = floats::from_bits(key_word(image, b, i));
-    search_key(image, b.firstval as usize, i, key).is_match()
+    let key = number_at(image, b, i);
+    let mut found = false;
+    let mut j = 0;
+    while j < i {
+        found = found | (number_at(image, b, j) == key);
+        j += 1;
+    }
+    found
 }
 
 fn is_doubted(image: &[u8], b: View, doubt: Doubt, i: usize) -> bool
-    requires { ⌜ KeysIn (now image) b (i + 1) ⌝ }
+    requires { ⌜ Askable (now image) b doubt (i + 1) ⌝ }
     ensures { λ r. ⌜ r ≡ doubted (now (image .entry)) b doubt i ⌝ }
 {
     match doubt {
@@ -95,7 +110,7 @@ fn is_doubted(image: &[u8], b: View, doubt: Doubt, i: usize) -> bool
 
 // The first of n keys with which that is wrong; n if there is none.
 fn first_doubted(image: &[u8], b: View, doubt: Doubt, n: usize) -> usize
-    requires { ⌜ KeysIn (now image) b n ⌝ }
+    requires { ⌜ Askable (now image) b doubt n ⌝ }
     ensures { λ r. ⌜ r ≡ firstOf (doubted (now (image .entry)) b doubt) 0 n ⌝ }
 {
     let mut i = 0;
@@ -113,10 +128,12 @@ fn why_unusable(image: &[u8], b: View, i: usize) -> Refusal
     requires { ⌜ (i < 65535) × KeysIn (now image) b (i + 1) ⌝ }
     ensures { λ r. ⌜ r ≡ whyUnusable (now (image .entry)) b i ⌝ }
 {
-    if is_nan_key(image, b, i) {
-        Refusal::Key(i as u32)
+    let index = i as u32;
+    let isnan = is_nan_key(image, b, i);
+    if isnan {
+        Refusal::Key(index)
     } else {
-        Refusal::NotText(i as u32)
+        Refusal::NotText(index)
     }
 }
 
@@ -130,7 +147,8 @@ pub fn first_fault(image: &[u8], b: View) -> Fault
     let unlike = first_repeat(image, b, usable);
     let i = first_doubted(image, b, Doubt::RepeatedKey, unlike);
     if i < usable {
-        return Fault::Faulty(Refusal::Repeated(i as u32));
+        let index = i as u32;
+        return Fault::Faulty(Refusal::Repeated(index));
     }
     if usable < n {
         return Fault::Faulty(why_unusable(image, b, usable));

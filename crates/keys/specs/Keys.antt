@@ -1,6 +1,7 @@
 -- The keys of a value to text block, and the first that cannot be one of a text to value block (request [7]: "Refusals, first met in index order ..
 -- at one index 14, then 12, then 13"). Assumes nothing: these are definitions.
-use Prim.Native.Nat.{ℕ, zero, suc, _+_, _*_, _≤_}
+use mathlib.Core.Path.{_≡_}
+use Prim.Native.Nat.{ℕ, zero, suc, _+_, _*_, _≤_, _<_}
 use mathlib.Core.Bool.{Bool, true, false, _||_, cond}
 use mathlib.Core.List.{List, [], _∷_}
 use lib.ListN.{length}
@@ -10,10 +11,10 @@ use Rattle.blocks.specs.declared.view.View.{View}
 use Rattle.common.specs.declared.refusal.Refusal.{Refusal}
 use Rattle.common.specs.declared.refusal.Refusal.the-variants.{NotText, Repeated, Key}
 use Rattle.repeats.specs.Repeats.{textAt, textRepeated}
-use Rattle.inverse.specs.declared.keys.Fault.{Fault}
-use Rattle.inverse.specs.declared.keys.Fault.the-variants.{Faulty, Faultless}
-use Rattle.inverse.specs.declared.keys.Doubt.{Doubt}
-use Rattle.inverse.specs.declared.keys.Doubt.the-variants.{Unusable, RepeatedKey}
+use Rattle.keys.specs.declared.Fault.{Fault}
+use Rattle.keys.specs.declared.Fault.the-variants.{Faulty, Faultless}
+use Rattle.keys.specs.declared.Doubt.{Doubt}
+use Rattle.keys.specs.declared.Doubt.the-variants.{Unusable, RepeatedKey}
 
 -- the keys are the block's values, in order; the text of the i-th is that of the i-th reference (`textAt`)
 unfoldable pub keyAt : List ℕ → View → ℕ → Float
@@ -60,3 +61,12 @@ doubted img b RepeatedKey i = keyAmong img b i i
 -- n keys lie in the image
 abbrev pub KeysIn : List ℕ → View → ℕ → Type 0
 KeysIn img b n = b .firstval + 8 * n ≤ length img
+
+-- the first n keys are no NaNs
+abbrev pub Numbers : List ℕ → View → ℕ → Type 0
+Numbers img b n = (j : ℕ) → j < n → isNan (keyAt img b j) ≡ false
+
+-- what has to be known of the first n keys to ask that of them
+abbrev pub Askable : List ℕ → View → Doubt → ℕ → Type 0
+Askable img b Unusable n = KeysIn img b n
+Askable img b RepeatedKey n = KeysIn img b n × Numbers img b n

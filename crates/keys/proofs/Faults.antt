@@ -3,7 +3,7 @@ use mathlib.Core.Path.{_≡_, refl, sym, ap, subst, _∙_}
 use mathlib.Core.Bool.{Bool, true, false, _||_, cond}
 use mathlib.Core.List.{List, [], _∷_}
 use Prim.Native.Nat.{ℕ, zero, suc, _+_, _*_, _≤_, _<_}
-use native.Mathlib.Nat.{add-zero}
+use native.Mathlib.Numerals.{add-one}
 use native.Mathlib.Omega.{arith}
 use borrow.Author.Tests.{lt-ltb, le-ltb, ltb-true, ltb-false, eqb-true, eqb-false}
 use lib.Dec.{ltb, eqb}
@@ -21,14 +21,13 @@ use Rattle.blocks.specs.View.{referenceIn}
 use Rattle.blocks.proofs.Places.{word-past-count}
 use Rattle.blocks.specs.declared.view.View.{View}
 use Rattle.leads.specs.Lead.{leadAt, byLink}
-use Rattle.rules.specs.Values.{values}
-use Rattle.rules.specs.Search.{isMatch, searched, firstKey, keySearch}
 use Rattle.repeats.specs.Repeats.{leadText, textAt, textRepeated, firstOf}
-use Rattle.inverse.specs.Keys.{keyAt, keyAmong, isEmpty, faultAt, orLater, firstFault, unusable, whyUnusable, doubted}
-use Rattle.inverse.specs.declared.keys.Fault.{Fault}
-use Rattle.inverse.specs.declared.keys.Fault.the-variants.{Faulty, Faultless}
-use Rattle.inverse.specs.declared.keys.Doubt.the-variants.{Unusable, RepeatedKey}
-use Rattle.inverse.proofs.Firsts.{First, first-is}
+use Rattle.keys.specs.Keys.{keyAt, keyAmong, isEmpty, faultAt, orLater, firstFault, unusable, whyUnusable, doubted, Numbers, Askable}
+use Rattle.keys.specs.declared.Fault.{Fault}
+use Rattle.keys.specs.declared.Fault.the-variants.{Faulty, Faultless}
+use Rattle.keys.specs.declared.Doubt.{Doubt}
+use Rattle.keys.specs.declared.Doubt.the-variants.{Unusable, RepeatedKey}
+use Rattle.repeats.proofs.Firsts.{IsFirst, first-is}
 
 -- ---- a text that runs in the image is empty where its run is, or begins with a zero byte
 module _ (img : List ℕ) (from to : ℕ) (inner : to ≤ length img) where
@@ -49,65 +48,15 @@ module _ (img : List ℕ) (from to : ℕ) (inner : to ≤ length img) where
       go true t = sym (empty-zero h (eqb-true (getD img from 0) 0 t))
       go false t = sym (not-empty h (eqb-false (getD img from 0) 0 t))
 
--- ---- the search for a key among the first n is the definition's
-matched-is : (i n : ℕ) → isMatch (searched i n) ≡ ltb i n
-matched-is i n = go (ltb i n) refl
-  where
-    go : (b : Bool) → ltb i n ≡ b → isMatch (searched i n) ≡ b
-    go true t = rw t
-    go false t = rw t
-
-ltb-suc : (m n : ℕ) → ltb (suc m) (suc n) ≡ ltb m n
-ltb-suc m n = go (ltb m n) refl
-  where
-    go : (b : Bool) → ltb m n ≡ b → ltb (suc m) (suc n) ≡ b
-    go true t = lt-ltb (suc m) (suc n) (omega (arith, ltb-true m n t))
-    go false t = le-ltb (suc m) (suc n) (omega (arith, ltb-false m n t))
-
-abbrev any : List Float → Float → Bool
-any [] x = false
-any (k ∷ ks) x = eq k x || any ks x
-
-found-any : (vs : List Float) (x : Float) → ltb (firstKey vs x) (length vs) ≡ any vs x
-unfolding firstKey
-found-any [] x = refl
-found-any (k ∷ ks) x = go (eq k x) (found-any ks x)
-  where
-    go : (b : Bool) → ltb (firstKey ks x) (length ks) ≡ any ks x → ltb (cond b 0 (suc (firstKey ks x))) (suc (length ks)) ≡ (b || any ks x)
-    go true e = lt-ltb 0 (suc (length ks)) (omega arith)
-    go false e = ltb-suc (firstKey ks x) (length ks) ∙ e
-
-or-assoc : (a b c : Bool) → (a || (b || c)) ≡ ((a || b) || c)
-or-assoc true b c = refl
-or-assoc false b c = refl
-
 or-true : (a : Bool) → (a || true) ≡ true
 or-true true = refl
 or-true false = refl
 
-or-false : (a : Bool) → (a || false) ≡ a
-or-false true = refl
-or-false false = refl
-
-any-last : (img : List ℕ) (p n : ℕ) (x : Float) → any (values img p (suc n)) x ≡ (any (values img p n) x || eq (valueAt img (p + 8 * n)) x)
-unfolding values
-any-last img p zero x = let e : p ≡ p + 8 * 0 = omega arith in or-false (eq (valueAt img p) x) ∙ ap (λ (q : ℕ). eq (valueAt img q) x) e
-any-last img p (suc n) x =
-    let e : p + 8 + 8 * n ≡ p + 8 * suc n = omega arith in
-    ap (λ (b : Bool). eq (valueAt img p) x || b) (any-last img (p + 8) n x ∙ ap (λ (q : ℕ). any (values img (p + 8) n) x || eq (valueAt img q) x) e)
-    ∙ or-assoc (eq (valueAt img p) x) (any (values img (p + 8) n) x) (eq (valueAt img (p + 8 * suc n)) x)
-
-any-among : (img : List ℕ) (b : View) (i n : ℕ) → any (values img (b .firstval) n) (keyAt img b i) ≡ keyAmong img b i n
-unfolding keyAmong keyAt values
-any-among img b i zero = refl
-any-among img b i (suc n) =
-    any-last img (b .firstval) n (keyAt img b i) ∙ ap (λ (c : Bool). c || eq (keyAt img b n) (keyAt img b i)) (any-among img b i n)
-
-pub key-search : (img : List ℕ) (b : View) (i n : ℕ) → isMatch (keySearch (values img (b .firstval) n) (keyAt img b i)) ≡ keyAmong img b i n
-unfolding keySearch
-key-search img b i n =
-    let vs = values img (b .firstval) n in
-    matched-is (firstKey vs (keyAt img b i)) (length vs) ∙ found-any vs (keyAt img b i) ∙ any-among img b i n
+-- ---- one key more
+pub among-more : (img : List ℕ) (b : View) (i j : ℕ) {found : Bool} {x y : Float} → found ≡ keyAmong img b i j → x ≡ keyAt img b j → y ≡ keyAt img b i
+    → (found || eq x y) ≡ keyAmong img b i (j + 1)
+unfolding keyAmong
+among-more img b i j e f g = rw (e, f, g, add-one j)
 
 -- ---- what is wrong at an index
 module _ (img : List ℕ) (b : View) (j : ℕ) where
@@ -171,14 +120,14 @@ module _ (img : List ℕ) (b : View) where
   -- the three searches: for a key that cannot be used, before it for a repeated text, and before that for a repeated key
   module _ (n u d e : ℕ) (us : u ≡ firstOf (doubted img b Unusable) 0 n) (ds : d ≡ firstOf (textRepeated img b) 0 u)
       (es : e ≡ firstOf (doubted img b RepeatedKey) 0 d) where
-    usable : First (doubted img b Unusable) 0 n u
-    usable = subst (First (doubted img b Unusable) 0 n) (sym us) (first-is (doubted img b Unusable) 0 n)
+    usable : IsFirst (doubted img b Unusable) 0 n u
+    usable = subst (IsFirst (doubted img b Unusable) 0 n) (sym us) (first-is (doubted img b Unusable) 0 n)
 
-    unlike : First (textRepeated img b) 0 u d
-    unlike = subst (First (textRepeated img b) 0 u) (sym ds) (first-is (textRepeated img b) 0 u)
+    unlike : IsFirst (textRepeated img b) 0 u d
+    unlike = subst (IsFirst (textRepeated img b) 0 u) (sym ds) (first-is (textRepeated img b) 0 u)
 
-    keyed : First (doubted img b RepeatedKey) 0 d e
-    keyed = subst (First (doubted img b RepeatedKey) 0 d) (sym es) (first-is (doubted img b RepeatedKey) 0 d)
+    keyed : IsFirst (doubted img b RepeatedKey) 0 d e
+    keyed = subst (IsFirst (doubted img b RepeatedKey) 0 d) (sym es) (first-is (doubted img b RepeatedKey) 0 d)
 
     pub fault-places : (e ≤ d) × (d ≤ u) × (u ≤ n)
     fault-places = (omega (arith, keyed .to), omega (arith, unlike .to), omega (arith, usable .to))
@@ -209,6 +158,22 @@ module _ (img : List ℕ) (b : View) where
 
     pub faultless : u ≤ e → n ≤ u → firstFault img b 0 n ≡ Faultless
     faultless least all = none-faulty 0 n (λ j h k. sound-before j h (omega (arith, k, least, all)))
+
+-- fewer keys can be asked too
+pub askable-less : (img : List ℕ) (b : View) (d : Doubt) (m n : ℕ) → m ≤ n → Askable img b d n → Askable img b d m
+askable-less img b Unusable m n h k = omega (arith, h, k)
+askable-less img b RepeatedKey m n h k = (omega (arith, h, k .0), λ j l. k .1 j (omega (arith, l, h)))
+
+-- keys that can be used are no NaNs
+pub usable-numbers : (img : List ℕ) (b : View) (n u : ℕ) → u ≡ firstOf (doubted img b Unusable) 0 n → (d : ℕ) → d ≤ u → Numbers img b d
+unfolding unusable
+usable-numbers img b n u us d h j l =
+    let first = subst (IsFirst (doubted img b Unusable) 0 n) (sym us) (first-is (doubted img b Unusable) 0 n) in
+    go (isNan (keyAt img b j)) (isEmpty (textAt img b j)) (first .before j (omega arith) (omega (arith, h, l)))
+  where
+    go : (x y : Bool) → (x || y) ≡ false → x ≡ false
+    go false y e = refl
+    go true y e = clash cc
 
 -- the first of n is at most n
 pub first-within : (p : ℕ → Bool) (n e : ℕ) → e ≡ firstOf p 0 n → e ≤ n

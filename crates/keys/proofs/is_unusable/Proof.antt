@@ -1,13 +1,13 @@
--- `inverse::keys::is_unusable` meets its contract. Assumes nothing.
+-- `keys::is_unusable` meets its contract. Assumes nothing.
 use mathlib.Core.Path.{_≡_, sym, ap, _∙_}
 use mathlib.Core.Bool.{Bool, true, false, _||_}
 use denote.Ref.{now}
 use lib.Ieee.{isNan}
 use Rattle.repeats.specs.Repeats.{textAt}
-use Rattle.inverse.specs.Keys.{keyAt, isEmpty, unusable}
+use Rattle.keys.specs.Keys.{keyAt, isEmpty, unusable}
 use borrow.Author.Needs.{needs}
-use Rattle.inverse.proofs.keys.is_unusable.Statement.{statement}
-use Rattle.inverse.proofs.keys.is_unusable.Tie as tie
+use Rattle.keys.proofs.is_unusable.Statement.{statement}
+use Rattle.keys.proofs.is_unusable.Tie as tie
 
 is-nan-key-requires : tie.Need-is-nan-key-requires
 is-nan-key-requires c κs = search needs

@@ -1,12 +1,12 @@
--- `inverse::keys::first_fault` meets its contract. Assumes nothing.
+-- `keys::first_fault` meets its contract. Assumes nothing.
 use mathlib.Core.Path.{_≡_, sym, ap, _∙_}
 use native.Mathlib.Omega.{arith}
 use denote.Ref.{now}
-use Rattle.inverse.specs.declared.keys.Fault.the-variants.{Faulty}
-use Rattle.inverse.proofs.Faults.{first-within, fault-places, fault-repeated, fault-unusable, faultless}
+use Rattle.keys.specs.declared.Fault.the-variants.{Faulty}
+use Rattle.keys.proofs.Faults.{first-within, usable-numbers, fault-places, fault-repeated, fault-unusable, faultless}
 use borrow.Author.Needs.{needs}
-use Rattle.inverse.proofs.keys.first_fault.Statement.{statement}
-use Rattle.inverse.proofs.keys.first_fault.Tie as tie
+use Rattle.keys.proofs.first_fault.Statement.{statement}
+use Rattle.keys.proofs.first_fault.Tie as tie
 
 cast-n : tie.Need-cast-n
 cast-n c = search needs
@@ -19,10 +19,12 @@ first-repeat-requires c κs = omega (arith, first-within _ _ _ (c .first-doubted
 
 first-doubted-requires-2 : tie.Need-first-doubted-requires-2
 first-doubted-requires-2 c κs =
-    omega (arith, first-within _ _ _ (c .first-repeat .ensures), first-within _ _ _ (c .before .first-doubted .ensures))
+    let fewer = first-within _ _ _ (c .first-repeat .ensures) in
+    let usable = c .before .first-doubted .ensures in
+    (omega (arith, fewer, first-within _ _ _ usable), usable-numbers _ _ _ _ usable _ fewer)
 
-cast-t9 : tie.Need-cast-t9
-cast-t9 c =
+cast-index : tie.Need-cast-index
+cast-index c =
     let u = c .before .before .before in
     omega (arith, first-within _ _ _ (u .first-doubted .ensures))
 
@@ -56,7 +58,7 @@ first-fault-spec =
     first-doubted-requires
     first-repeat-requires
     first-doubted-requires-2
-    cast-t9
+    cast-index
     returns
     why-unusable-requires
     returns-2

@@ -1,12 +1,12 @@
--- `inverse::keys::is_nan_key` meets its contract. Assumes nothing.
+-- `keys::is_nan_key` meets its contract. Assumes nothing.
 use mathlib.Core.Path.{ap, _∙_}
 use lib.Ieee.{binary64, nanBits}
 use lib.Ieee.Bits.{nanBits-is}
 use Rattle.words.specs.Words.{valueAt}
-use Rattle.inverse.specs.Keys.{keyAt}
+use Rattle.keys.specs.Keys.{keyAt}
 use borrow.Author.Needs.{needs}
-use Rattle.inverse.proofs.keys.is_nan_key.Statement.{statement}
-use Rattle.inverse.proofs.keys.is_nan_key.Tie as tie
+use Rattle.keys.proofs.is_nan_key.Statement.{statement}
+use Rattle.keys.proofs.is_nan_key.Tie as tie
 
 key-word-requires : tie.Need-key-word-requires
 key-word-requires c κs = search needs

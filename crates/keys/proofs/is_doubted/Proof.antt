@@ -1,23 +1,28 @@
--- `inverse::keys::is_doubted` meets its contract. Assumes nothing.
-use mathlib.Core.Path.{sym, ap, _∙_}
+-- `keys::is_doubted` meets its contract. Assumes nothing.
+use mathlib.Core.Path.{sym, ap, subst, _∙_}
+use Prim.Native.Nat.{_+_}
 use denote.Ref.{now}
-use Rattle.inverse.specs.Keys.{doubted}
-use Rattle.inverse.specs.declared.keys.Doubt.{Doubt}
+use Rattle.keys.specs.Keys.{doubted, Askable}
+use Rattle.keys.specs.declared.Doubt.{Doubt}
 use borrow.Author.Needs.{needs}
-use Rattle.inverse.proofs.keys.is_doubted.Statement.{statement}
-use Rattle.inverse.proofs.keys.is_doubted.Tie as tie
+use Rattle.keys.proofs.is_doubted.Statement.{statement}
+use Rattle.keys.proofs.is_doubted.Tie as tie
 
 enum-told : tie.Need-enum-told
 enum-told c = search needs
 
 is-unusable-requires : tie.Need-is-unusable-requires
-is-unusable-requires c κs = search needs
+is-unusable-requires c κs =
+    let s = c .before .before .before in
+    subst (λ (d : Doubt). Askable (now (s .args .image)) (s .args .b) d (s .args .i + 1)) (c .enum-told .given .1) (s .pre)
 
 enum-told-2 : tie.Need-enum-told-2
 enum-told-2 c = search needs
 
 is-repeated-key-requires : tie.Need-is-repeated-key-requires
-is-repeated-key-requires c κs = search needs
+is-repeated-key-requires c κs =
+    let s = c .before .before .before in
+    subst (λ (d : Doubt). Askable (now (s .args .image)) (s .args .b) d (s .args .i + 1)) (c .enum-told2 .given .1) (s .pre)
 
 returns : tie.Need-returns
 returns c =

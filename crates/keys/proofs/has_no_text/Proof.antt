@@ -1,4 +1,4 @@
--- `inverse::keys::has_no_text` meets its contract. Assumes nothing.
+-- `keys::has_no_text` meets its contract. Assumes nothing.
 use mathlib.Core.Path.{sym, ap, subst, _∙_}
 use mathlib.Core.List.{List}
 use denote.Ref.{now}
@@ -6,10 +6,10 @@ use Rattle.leads.specs.Lead.{LeadIn}
 use Rattle.leads.proofs.Leads.{lead-at-inside}
 use Rattle.leads.specs.declared.lead.Lead.{Lead}
 use Rattle.repeats.specs.Repeats.{leadText, textAt}
-use Rattle.inverse.specs.Keys.{isEmpty}
+use Rattle.keys.specs.Keys.{isEmpty}
 use borrow.Author.Needs.{needs}
-use Rattle.inverse.proofs.keys.has_no_text.Statement.{statement}
-use Rattle.inverse.proofs.keys.has_no_text.Tie as tie
+use Rattle.keys.proofs.has_no_text.Statement.{statement}
+use Rattle.keys.proofs.has_no_text.Tie as tie
 
 lead-at-requires : tie.Need-lead-at-requires
 lead-at-requires c κs = search needs
