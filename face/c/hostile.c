@@ -1,6 +1,6 @@
 /* Images on which only a call whose work is bounded ends at all: some hundred thousand references to one text of 64 MB, or as many calls on a block
- * with an excess of 64 MB, or on a text block of that length whose text ends before. Each call has to end, with the right answer. No time is
- * asserted: a watchdog stops the program where a call does not end.
+ * with an excess of 64 MB, or on a text block of that length whose text ends before; or 65,535 keys to invert whose texts differ in their last bytes
+ * alone. Each call has to end, with the right answer. No time is asserted: a watchdog stops the program where a call does not end.
  *
  * The bound that holds for every call stands in mdf_conversion.h, "What a call can cost". */
 #define _POSIX_C_SOURCE 200809L
@@ -14,7 +14,7 @@
 #include <stdlib.h>
 #include <unistd.h>
 
-#define PATIENCE 60           /* seconds an image may take; bounded calls take some hundredths of a second */
+#define PATIENCE 60           /* seconds an image may take; bounded calls take some hundredths of a second, and where 65,535 keys are inverted some seconds */
 #define LONG ((size_t)1 << 26) /* bytes of the long text */
 #define CAPACITY (LONG + ((size_t)1 << 25))
 #define LIMIT 100000
@@ -57,6 +57,13 @@ static void begin(const char *name) {
     built_len = behind_texts;
     memset(out, FILL, sizeof out);
     alarm(PATIENCE);
+}
+
+/* The same image, asked something else. */
+static void begin_again(const char *name) {
+    size_t end = built_len;
+    begin(name);
+    built_len = end;
 }
 
 static bool untouched(size_t from) {
@@ -302,6 +309,155 @@ static void texts_written(void) {
     expect(t.refusal == 0 && t.id == MDF_MD && t.address == 0 && t.start == text && t.length == MEGABYTE);
 }
 
+#define KEYS 65535      /* the most that a block can have */
+#define TAIL 4          /* letters that tell the texts of the keys from each other */
+#define LETTERS 20      /* that these are taken from: neither x nor y */
+#define TEXT_LENGTH 400 /* bytes of such a text: nearly as many as the room behind the first texts allows */
+_Static_assert((24 + TEXT_LENGTH) * KEYS + 3 * (64 + 16 * KEYS) + 1024 < CAPACITY - LONG, "the texts, their block, its inverse and the one wanted fit");
+
+static uint64_t key_texts, to_invert; /* the first of the keys' texts, which stand in a row, and the block behind them */
+
+/* How the texts are alike: all have one beginning, or it is as long as their index says, so that each has another length in common with the next. */
+static enum { ALIKE, STEPPED } shape;
+
+/* The i-th text: its beginning, and i in letters behind that. A stepped one then has other bytes up to its end. */
+static void key_text(size_t i, uint8_t *words) {
+    size_t most = TEXT_LENGTH - TAIL, alike = shape == ALIKE ? most : i % most;
+    memset(words, 'x', alike);
+    for (size_t k = 0; k < TAIL; k++, i /= LETTERS) words[alike + k] = (uint8_t)('a' + i % LETTERS);
+    memset(words + alike + TAIL, 'y', most - alike);
+}
+
+/* The 64 bits of the i-th key: all are apart, and none is a NaN. */
+static uint64_t key_word(size_t i) { return 0x4000000000000000 + i; }
+
+/* The most keys, each with a text of its own. */
+static void begin_keys(const char *name, int texts) {
+    begin(name);
+    shape = texts;
+    key_texts = built_len;
+    for (size_t i = 0; i < KEYS; i++) key_text(i, built + text_of('x', TEXT_LENGTH) + 24);
+    to_invert = open_block(0, KEYS, KEYS);
+    for (size_t i = 0; i < KEYS; i++) put(key_texts + (24 + TEXT_LENGTH) * i, 8);
+    put_kind(7, KEYS, KEYS);
+    for (size_t i = 0; i < KEYS; i++) put(key_word(i), 8);
+}
+
+static bool is_inverted_as(mdf_inverted v, uint32_t refusal, uint32_t index, uint64_t address, uint64_t length) {
+    return v.refusal == refusal && v.index == index && v.address == address && v.length == length;
+}
+
+/* Refused, with room enough. Behind the image every byte is as it was. */
+static void expect_not_inverted(uint32_t refusal, uint32_t index) {
+    size_t room = 64 + 16 * KEYS;
+    memset(built + built_len, FILL, room);
+    mdf_inverted v = mdf_invert(built, built_len, to_invert, built + built_len, room);
+    expect(is_inverted_as(v, refusal, index, 0, 0) && all_are(FILL, built_len, built_len + room));
+}
+
+/* Every word of the new block, which stands behind the image. */
+static bool is_inverse(size_t at) {
+    size_t place = built_len, size = 64 + 16 * KEYS;
+    built_len = at + size + 64; /* the block that is wanted is built further on */
+    uint64_t wanted = open_block(0, KEYS, KEYS);
+    for (size_t i = 0; i < KEYS; i++) put(key_texts + (24 + TEXT_LENGTH) * i, 8);
+    put_kind(9, KEYS, KEYS);
+    for (size_t i = 0; i < KEYS; i++) put(key_word(i), 8);
+    built_len = place;
+    return memcmp(built + at, built + wanted, size) == 0;
+}
+
+static mdf_applied of_key_text(size_t image_len, uint64_t at, const uint8_t *words, size_t length) {
+    return mdf_apply_text(built, image_len, at, 1, words, length, out, sizeof out);
+}
+
+static void keys_inverted(void) {
+    static const size_t asked[] = {0, 1, 19, 20, 254, 255, 256, 40000, KEYS - 2, KEYS - 1};
+    begin_keys("65,535 keys whose texts differ in their last bytes alone, inverted", ALIKE);
+    size_t at = built_len, size = 64 + 16 * KEYS;
+    memset(built + at, FILL, size + 64);
+    expect(is_inverted_as(mdf_invert(built, at, to_invert, built + at, size + 64), 0, 0, 0, size));
+    expect(all_are(FILL, at + size, at + size + 64) && is_inverse(at));
+    begin_again("65,535 keys, ten of the texts turned back");
+    for (size_t i = 0; i < sizeof asked / sizeof *asked; i++) {
+        uint8_t words[TEXT_LENGTH];
+        key_text(asked[i], words);
+        mdf_applied a = of_key_text(at + size, at, words, TEXT_LENGTH);
+        uint64_t word;
+        memcpy(&word, &a.number, sizeof word);
+        expect(a.refusal == 0 && a.kind == MDF_KIND_NUMBER && word == key_word(asked[i]) && a.checked == 1 && a.applied == 1 && untouched(0));
+        a = of_key_text(at + size, at, words, TEXT_LENGTH - 1);
+        expect(a.refusal == 0 && a.kind == MDF_KIND_UNKNOWN && a.checked == 1 && a.applied == 1 && untouched(0));
+    }
+}
+
+static void keys_not_inverted(void) {
+    begin_keys("65,535 keys whose texts begin alike, in steps, the last two texts equal", STEPPED);
+    memcpy(built + key_texts + (24 + TEXT_LENGTH) * (KEYS - 1), built + key_texts + (24 + TEXT_LENGTH) * (KEYS - 2), 24 + TEXT_LENGTH);
+    expect_not_inverted(MDF_REFUSED_REPEATED, KEYS - 1);
+    begin_keys("65,535 keys whose texts differ in their last bytes alone, the last key equal to the first", ALIKE);
+    put_at(to_invert + 64 + 8 * (KEYS + KEYS - 1), key_word(0), 8);
+    expect_not_inverted(MDF_REFUSED_REPEATED, KEYS - 1);
+}
+
+/* Refused for the block, its first key or the room, so often that a call which looks at what stands behind does not end. */
+static void expect_soon(uint32_t refusal, uint32_t index, uint64_t address) {
+    bool right = true;
+    for (int i = 0; right && i < OFTEN; i++) {
+        right = is_inverted_as(mdf_invert(built, built_len, to_invert, out, sizeof out), refusal, index, address, 0);
+    }
+    expect(right && untouched(0));
+}
+
+static void first_keys_refused(void) {
+    uint64_t nan = 0x7ff8000000000000;
+    begin("65,535 keys, all references to the short text");
+    to_invert = block_of(7, short_text, short_text, short_text, KEYS, KEYS, 0);
+    expect_not_inverted(MDF_REFUSED_REPEATED, 1);
+    begin("65,535 keys, all references to the long text");
+    to_invert = block_of(7, long_text, long_text, long_text, KEYS, KEYS, 0);
+    expect_not_inverted(MDF_REFUSED_REPEATED, 1);
+    begin("65,535 keys, the first a NaN");
+    to_invert = block_of(7, long_text, long_text, long_text, KEYS, KEYS, nan);
+    expect_soon(MDF_REFUSED_KEY, 0, 0);
+    begin("65,535 keys, the first without a text");
+    to_invert = block_of(7, 0, long_text, long_text, KEYS, KEYS, 0);
+    expect_soon(MDF_REFUSED_NOT_TEXT, 0, 0);
+    begin("65,535 keys of another type");
+    to_invert = block_of(9, long_text, long_text, long_text, KEYS, KEYS, 0);
+    expect_soon(MDF_REFUSED_WRONG_TYPE, 0, to_invert);
+    begin("a link count that no image holds, inverted");
+    to_invert = block_of(7, long_text, long_text, long_text, KEYS, KEYS, 0);
+    for (int bit = 20; bit < 64; bit++) {
+        put_at(to_invert + 16, UINT64_C(1) << bit, 8);
+        expect(is_inverted_as(mdf_invert(built, built_len, to_invert, out, sizeof out), MDF_REFUSED_SHORT, 0, to_invert, 0) && untouched(0));
+    }
+    put_at(to_invert + 16, UINT64_MAX, 8);
+    expect_soon(MDF_REFUSED_SHORT, 0, to_invert);
+}
+
+/* No reference behind those of the keys is looked at. */
+static void defaults_not_inverted(void) {
+    begin("one key, and 1,000,000 references more to the long text, inverted");
+    to_invert = block_of(7, short_text, long_text, long_text, 1000001, 1, 0);
+    expect_soon(MDF_REFUSED_ROOM, 0, 0);
+    size_t at = built_len;
+    expect(is_inverted_as(mdf_invert(built, at, to_invert, built + at, 80), 0, 0, 0, 80));
+    mdf_applied a = of_key_text(at + 80, at, (const uint8_t *)"x", 1);
+    expect(a.refusal == 0 && a.kind == MDF_KIND_NUMBER && a.number == 0 && a.checked == 1 && a.applied == 1 && untouched(0));
+    begin("two keys, one with the long text, inverted");
+    to_invert = open_block(0, 2, 2);
+    put(short_text, 8);
+    put(long_text, 8);
+    put_kind(7, 2, 2);
+    put(0, 8);
+    put(key_word(1), 8);
+    at = built_len;
+    expect(is_inverted_as(mdf_invert(built, at, to_invert, built + at, 96), 0, 0, 0, 96));
+    a = of_key_text(at + 96, at, built + long_text + 24, LONG);
+    expect(a.refusal == 0 && a.kind == MDF_KIND_NUMBER && a.number > 2 && a.checked == 1 && a.applied == 1 && untouched(0));
+}
+
 #define READ 80             /* bytes of a block with a range and nothing else that are read */
 #define PADDED (READ + LONG) /* the same with 64 MB of excess */
 
@@ -378,6 +534,10 @@ int main(void) {
     texts_read();
     texts_written();
     zeros_not_written();
+    first_keys_refused();
+    defaults_not_inverted();
+    keys_inverted();
+    keys_not_inverted();
     written_with_padding();
     parsed_with_padding();
     not_written_with_padding();

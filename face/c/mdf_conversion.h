@@ -1,4 +1,5 @@
-/* MDF 4 conversion blocks (##CC): checked, applied to values, parsed, read by place and written; text blocks (##TX and ##MD): read and written.
+/* MDF 4 conversion blocks (##CC): checked, applied to values, parsed, read by place and written, and value to text turned into text to value; text
+ * blocks (##TX and ##MD): read and written.
  *
  * Every call works on an image that is lent to it: the bytes of an MDF 4 file, or any bytes at all. An address is a place in the image, counted
  * from 0. No image, address, value or length makes a call misbehave or run on: a call answers, or it refuses with a number.
@@ -53,6 +54,9 @@
  * - mdf_write takes what it writes, its excess with it, so that no excess costs more than the length of `out`: what does not fit is not begun.
  * - mdf_text_read looks once at each byte of the text, up to its first zero byte; mdf_text_write takes the text's bytes twice, and what it writes.
  *   Nothing else plays a part in either: not the length of the image, nor what the block length has behind the first zero byte.
+ * - mdf_invert of a block with n keys takes at most n * n / 2 comparisons of keys and as many short steps for the texts; for each 255 keys it runs
+ *   through each text behind them at most twice; and it writes 16 bytes a key. No limit stops it, but there are at most 65,535 keys: that is
+ *   2,147,385,345 comparisons, and 257 times two runs through a text. It never takes n * n times the length of a text, however alike the texts are.
  *
  * So `limit` and the length of `out` are the caller's brake. Choose a limit well above the nested blocks that one conversion is expected to have:
  * 4096 is generous, while 4294967295 lets an image of some kilobytes begin that many visits. Choose `out` as long as the longest text that can be shown: a
@@ -71,7 +75,8 @@
 extern "C" {
 #endif
 
-/* Why a call refused. 1 to 6, 18 and 22 have the address of the block or link; every other field that does not apply is 0. */
+/* Why a call refused. 1 to 6, 15, 18 and 22 have the address of the block or link, 12 to 14 the index of a key; every other field that does not apply
+ * is 0. */
 enum mdf_refusal {
     MDF_REFUSED_OUTSIDE = 1,         /* root address + 24 is beyond the image; out of mdf_text_read the address + 24 */
     MDF_REFUSED_NOT_CONVERSION = 2,  /* the root's id is not ##CC */
@@ -84,6 +89,10 @@ enum mdf_refusal {
     MDF_REFUSED_ROOM = 8,            /* the text or block is longer than `out` */
     MDF_REFUSED_COUNT = 9,           /* more than 65,535 values to write */
     MDF_REFUSED_WIDTH = 11,          /* the width of a mode is 0 or above 64 */
+    MDF_REFUSED_NOT_TEXT = 12,       /* a key to invert has no reference, or one that leads to no text or to an empty one */
+    MDF_REFUSED_REPEATED = 13,       /* a key to invert, or its text, is equal to an earlier one; 0 and -0 are equal */
+    MDF_REFUSED_KEY = 14,            /* a key to invert is a NaN */
+    MDF_REFUSED_WRONG_TYPE = 15,     /* the block to invert is no value to text (type 7) */
     MDF_REFUSED_EDITION = 16,        /* the edition of a mode is neither 410 nor 420 */
     MDF_REFUSED_FEW_LINKS = 18,      /* a ##CC block whose link count is below 4; the program repair_block writes it with 4 */
     MDF_REFUSED_ZERO_BYTE = 21,      /* a zero byte in a text to write: the text would end there when it is read */
@@ -196,6 +205,14 @@ typedef struct {
     uint64_t length;  /* how many bytes the text has, with no zero at its end; 0 where refused */
 } mdf_text;
 
+/* The answer of inverting. Fields that do not apply are 0. */
+typedef struct {
+    uint32_t refusal; /* 0: written */
+    uint32_t index;   /* of the key that is refused with 12, 13 or 14; the first has index 0 */
+    uint64_t address; /* of a refusal with 1, 2, 4, 15 or 18 */
+    uint64_t length;  /* bytes written; 0 where refused */
+} mdf_inverted;
+
 /* Walks the conversion at `address` and every conversion under it, references in order, and begins at most `limit` visits.
  * Answers how many blocks it visited, a block that is reached twice counting twice; or the first refusal met, of 1 to 6 and 18: at the root in the
  * order 1, 2, 3, 18, 4, at a nested block 3, 18, 4, 5. A link to a block on the current path is 6, and that block is not begun again. */
@@ -298,6 +315,19 @@ mdf_text mdf_text_read(const uint8_t *image, size_t image_len, uint64_t address)
  * `out` is as it was.
  * mdf_text_read gives the same id and the same text back, wherever the block stands in an image. */
 mdf_written mdf_text_write(bool metadata, const uint8_t *text, size_t text_len, uint8_t *out, size_t out_len);
+
+/* Builds the text to value block (type 9) that matches the value to text block (type 7) at `address`: it turns the text of a key back into the key. The
+ * keys of the old block are its values, in order; the text of a key is that of the reference with the key's index.
+ * Of n keys the new block has 64 + 16 * n bytes and 4 + n links: the old block's name, unit and comment links, an inverse link of 0, and the old block's
+ * first n references. It has the old block's precision and flags, n as reference count field and as value count, no range and no padding, and as values
+ * the 64 bits of each key as they stand. A default text of the old block, which is a reference behind those of the keys, is not taken over.
+ * Answers how many bytes it wrote; or refuses, with the address: with 1, 2, 18 or 4 as mdf_parse does, then with 15 where the type is not 7. Then key by
+ * key, with the key's index: with 14 where the key is a NaN, else with 12 where it has no reference, or its reference is 0, leads to no ##TX that lies
+ * whole in the image, or to an empty text, else with 13 where an earlier key is equal to it, as 0 and -0 are, or has an equal text. And last with 8.
+ * Afterwards the block stands in `out` from byte 0 on and the bytes behind it are as they were. After a refusal all of `out` is as it was.
+ * Set behind the end of the image, and applied there with a limit of 1 or more, the new block gives for the text of a key that key, all its 64 bits,
+ * with N and M both 1; for any other text it gives unknown. */
+mdf_inverted mdf_invert(const uint8_t *image, size_t image_len, uint64_t address, uint8_t *out, size_t out_len);
 
 #ifdef __cplusplus
 }

@@ -12,20 +12,23 @@
 #define LEVELS 21
 #define ALL_BITS UINT64_MAX
 #define LIMIT 100
+#define KEYS 600 /* of the block that is inverted */
 
-static uint8_t image[1 << 16], out[1 << 12], area[1 << 18];
-static uint64_t root, text;
+static uint8_t image[1 << 16], out[1 << 14], area[1 << 18];
+static uint64_t root, text, keyed;
 static ucontext_t here, aside;
 
 /* An application that does nothing and takes no more than its return address. It hands back where its answer would stand, as the caller expects. */
 __asm__(".text\n.globl apply_no_block\napply_no_block:\n\tmovq %rdi, %rax\n\tret\n");
 mdf_applied apply_no_block(const uint8_t *image, size_t image_len, uint64_t address, uint32_t limit, uint64_t value, uint8_t *out, size_t out_len);
 
-/* Likewise for the two calls on text blocks. The answer of the second stands in registers. */
+/* Likewise for the two calls on text blocks and for inverting. The answer of the second stands in registers. */
 __asm__(".globl read_no_text\nread_no_text:\n\tmovq %rdi, %rax\n\tret\n"
-        ".globl write_no_text\nwrite_no_text:\n\txorl %eax, %eax\n\txorl %edx, %edx\n\tret\n");
+        ".globl write_no_text\nwrite_no_text:\n\txorl %eax, %eax\n\txorl %edx, %edx\n\tret\n"
+        ".globl invert_no_block\ninvert_no_block:\n\tmovq %rdi, %rax\n\tret\n");
 mdf_text read_no_text(const uint8_t *image, size_t image_len, uint64_t address);
 mdf_written write_no_text(bool metadata, const uint8_t *text, size_t text_len, uint8_t *out, size_t out_len);
+mdf_inverted invert_no_block(const uint8_t *image, size_t image_len, uint64_t address, uint8_t *out, size_t out_len);
 
 /* What is measured. */
 static volatile mdf_applied answer;
@@ -33,6 +36,7 @@ static volatile mdf_checked checked;
 static volatile mdf_shown shown;
 static volatile mdf_text text_read;
 static volatile mdf_written text_written;
+static volatile mdf_inverted inverted;
 static volatile uint32_t refusal;
 
 static void nothing(void) { answer = apply_no_block(image, built_len, root, LIMIT, 1, out, sizeof out); }
@@ -61,6 +65,9 @@ static void read_nothing(void) { text_read = read_no_text(image, built_len, text
 static void read_text(void) { text_read = mdf_text_read(image, built_len, text); }
 static void write_nothing(void) { text_written = write_no_text(true, image + text + 24, 8, out, sizeof out); }
 static void write_text(void) { text_written = mdf_text_write(true, image + text + 24, 8, out, sizeof out); }
+
+static void invert_nothing(void) { inverted = invert_no_block(image, built_len, keyed, out, sizeof out); }
+static void invert(void) { inverted = mdf_invert(image, built_len, keyed, out, sizeof out); }
 
 static void (*job)(void);
 static void run(void) { job(); }
@@ -114,6 +121,34 @@ static void build(uint8_t kind, uint8_t last) {
     for (int level = 1; level < LEVELS; level++) root = above(kind, name, root);
 }
 
+/* Behind the others a value to text of many keys, each with a text of two letters of its own, and of those one that is repeated in the end or none. */
+static void build_keys(bool repeated) {
+    build(11, 11);
+    uint64_t first = built_len;
+    for (size_t i = 0; i < KEYS; i++) {
+        uint64_t letters = text_of('a', 2);
+        built[letters + 24] = (uint8_t)('a' + i / 26);
+        built[letters + 25] = (uint8_t)('a' + i % 26);
+    }
+    keyed = open_block(0, KEYS, KEYS);
+    for (size_t i = 0; i < KEYS; i++) put(repeated && i == KEYS - 1 ? first : first + 26 * i, 8);
+    put_kind(7, KEYS, KEYS);
+    for (size_t i = 0; i < KEYS; i++) put(i, 8);
+}
+
+/* The most that inverting it takes. */
+static size_t most_of_inverting(void) {
+    build_keys(true);
+    size_t refused = below_frame(invert, invert_nothing);
+    invert();
+    bool right = inverted.refusal == MDF_REFUSED_REPEATED && inverted.index == KEYS - 1;
+    build_keys(false);
+    size_t written = below_frame(invert, invert_nothing);
+    invert();
+    if (!right || inverted.refusal != 0 || inverted.length != 64 + 16 * KEYS) refusal |= 1;
+    return refused > written ? refused : written;
+}
+
 /* The most that 21 levels of a type take, over any type. */
 static size_t most_of(uint8_t kind, void (*f)(void)) {
     size_t most = 0;
@@ -141,12 +176,13 @@ int main(void) {
     read_text();
     write_text();
     bool texts = text_read.refusal == 0 && text_read.length == 8 && text_written.refusal == 0 && text_written.length == 40;
+    size_t inverting = most_of_inverting();
     if (!is_deepest(apply) || !is_deepest(apply_mode) || refusal != 0 || !texts) {
-        printf("stack: the deepest bit groups gave no text, or a block or a text was not written or read\n");
+        printf("stack: the deepest bit groups gave no text, or a block or a text was not written, read or inverted\n");
         return 1;
     }
     printf("stack below the caller at 21 levels, bytes: check %zu, type 7 %zu, type 8 %zu, bit groups %zu, in a mode %zu, type 10 shown %zu; one block %zu, "
-           "with its padding %zu, one word %zu; one text read %zu, written %zu\n",
-           walked, by_key, by_range, by_bits, in_a_mode, by_text, one_block, padded, one_word, reading, writing);
+           "with its padding %zu, one word %zu; one text read %zu, written %zu; %d keys inverted %zu\n",
+           walked, by_key, by_range, by_bits, in_a_mode, by_text, one_block, padded, one_word, reading, writing, KEYS, inverting);
     return 0;
 }

@@ -1,4 +1,4 @@
-/* Calls each function of mdf_conversion.h: every line of document 01's "Cases", every refusal from 1 to 9, 11, 16, 18 and 21 to 23.
+/* Calls each function of mdf_conversion.h: every line of document 01's "Cases", every refusal from 1 to 9, 11 to 16, 18 and 21 to 23.
  *
  * The images are built here byte by byte. Each call gets its image in a block of the heap of exactly its length, so that valgrind sees a read past
  * its end, and an output buffer between guard bytes. After each call every byte that should be as it was is compared. */
@@ -24,6 +24,9 @@ _Static_assert(sizeof(mdf_block) == 104 && offsetof(mdf_block, excess) == 80 && 
                "mdf_block has 104 bytes, `excess` at 80 and `reserved` at 88");
 _Static_assert(sizeof(mdf_text) == 32 && offsetof(mdf_text, id) == 4 && offsetof(mdf_text, start) == 16 && offsetof(mdf_text, length) == 24,
                "mdf_text has 32 bytes, `id` at 4, `start` at 16 and `length` at 24");
+_Static_assert(sizeof(mdf_inverted) == 24 && offsetof(mdf_inverted, index) == 4 && offsetof(mdf_inverted, address) == 8 &&
+                   offsetof(mdf_inverted, length) == 16,
+               "mdf_inverted has 24 bytes, `index` at 4, `address` at 8 and `length` at 16");
 
 static int passed, failed;
 
@@ -1881,6 +1884,637 @@ static void text_block_cases(void) {
     written_texts_are_taken(true);
 }
 
+/* ---- request [7]: text back to number ---- */
+
+#define MOST_KEYS 600 /* of a block that is inverted here; face/c/hostile.c has the most that there can be */
+
+/* A block to invert, whatever is wrong with it. Its reserved bytes, its range and its excess are no part of the new one. */
+typedef struct {
+    uint64_t name, unit, comment, inverse;
+    const uint64_t *refs, *keys;
+    size_t refs_len, keys_len;
+    uint64_t excess;
+    uint32_t reserved;
+    uint16_t flags, ref_count;
+    uint8_t kind, precision, ranged;
+} old_block;
+
+static old_block value_to_text(const uint64_t *refs, size_t refs_len, const uint64_t *keys, size_t keys_len) {
+    old_block b = {.kind = 7, .refs = refs, .refs_len = refs_len, .keys = keys, .keys_len = keys_len, .ref_count = (uint16_t)refs_len};
+    return b;
+}
+
+static void put_words(const uint64_t *words, size_t count) {
+    for (size_t i = 0; i < count; i++) put(words[i], 8);
+}
+
+/* Answers its address. */
+static uint64_t put_old(old_block b) {
+    static const uint64_t range[] = {0x3fe0000000000000, 0x4020000000000000};
+    uint64_t address = built_len;
+    put_header("##CC", 64 + 8 * (b.refs_len + b.keys_len) + (b.ranged ? 16 : 0) + b.excess, 4 + b.refs_len);
+    put_at(address + 4, b.reserved, 4);
+    const uint64_t fixed[] = {b.name, b.unit, b.comment, b.inverse};
+    put_words(fixed, 4);
+    put_words(b.refs, b.refs_len);
+    put(b.kind, 1);
+    put(b.precision, 1);
+    put(b.flags, 2);
+    put(b.ref_count, 2);
+    put(b.keys_len, 2);
+    if (b.ranged) put_words(range, 2);
+    put_words(b.keys, b.keys_len);
+    for (uint64_t i = 0; i < b.excess; i++) put(0xff, 1);
+    return address;
+}
+
+/* The block that is to be built, behind the image. In the request's words: "for each key, in order, the old text's address as reference and the key as
+ * value, with no default; its reference count field is the number of keys. Name, unit and comment links, precision and flags are the old block's; the
+ * inverse link is NIL and there is no range". */
+static uint64_t put_inverse(old_block b) {
+    uint64_t address = built_len;
+    put_header("##CC", 64 + 16 * b.keys_len, 4 + b.keys_len);
+    const uint64_t fixed[] = {b.name, b.unit, b.comment, 0};
+    put_words(fixed, 4);
+    put_words(b.refs, b.keys_len);
+    put(9, 1);
+    put(b.precision, 1);
+    put(b.flags, 2);
+    put(b.keys_len, 2);
+    put(b.keys_len, 2);
+    put_words(b.keys, b.keys_len);
+    return address;
+}
+
+/* Inverts, and compares every field of the answer and every byte of the output, which is to have `block`. */
+static void inverts(const char *name, uint64_t address, size_t room, mdf_inverted wanted, const uint8_t *block_built) {
+    uint8_t *image = lent_image(), *out = lent_out(room);
+    mdf_inverted v = mdf_invert(image, built_len, address, out, room);
+    expect(v.refusal == wanted.refusal && v.index == wanted.index && v.address == wanted.address && v.length == wanted.length &&
+               holds(out, room, block_built, wanted.length),
+           name);
+    give_back_image(image, name);
+    give_back_out(out);
+}
+
+/* Refused alike with every room. */
+static void not_inverted(const char *name, uint64_t address, mdf_inverted wanted) {
+    static const size_t rooms[] = {0, 63, 64, 80, 4096};
+    for (size_t i = 0; i < COUNT_OF(rooms); i++) inverts(name, address, rooms[i], wanted, NULL);
+}
+
+/* With the address: 1, 2, 4, 15 and 18. */
+static void not_inverted_at(const char *name, uint64_t address, uint32_t refusal) {
+    mdf_inverted wanted = {.refusal = refusal, .address = address};
+    not_inverted(name, address, wanted);
+}
+
+/* With the index of a key: 12, 13 and 14. */
+static void key_is_refused(const char *name, uint64_t address, uint32_t refusal, uint32_t index) {
+    mdf_inverted wanted = {.refusal = refusal, .index = index};
+    not_inverted(name, address, wanted);
+}
+
+/* The same of a block that is built first, behind the image as it is, which is left so. */
+static void a_key_is_refused(const char *name, old_block b, uint32_t refusal, uint32_t index) {
+    size_t end = built_len;
+    uint64_t address = put_old(b);
+    key_is_refused(name, address, refusal, index);
+    memset(built + end, 0, built_len - end);
+    built_len = end;
+}
+
+/* Inverted with room enough, and refused without. Afterwards the new block stands behind the image, as it was built by the rules. Answers its address. */
+static uint64_t is_inverted(const char *name, old_block b, uint64_t address) {
+    size_t end = built_len;
+    put_inverse(b);
+    size_t length = built_len - end;
+    uint8_t *wanted = memcpy(taken(length), built + end, length);
+    built_len = end;
+    mdf_inverted written = {.length = length}, refused = {.refusal = MDF_REFUSED_ROOM};
+    const size_t enough[] = {length, length + 1, length + 40}, less[] = {length - 1, 64 + 8 * b.keys_len - 1, 63, 0};
+    for (size_t i = 0; i < COUNT_OF(enough); i++) inverts(name, address, enough[i], written, wanted);
+    for (size_t i = 0; i < COUNT_OF(less); i++) inverts(name, address, less[i], refused, NULL);
+    free(wanted);
+    built_len = end + length;
+    return end;
+}
+
+static double of_bits(uint64_t word) {
+    double x;
+    memcpy(&x, &word, sizeof x);
+    return x;
+}
+
+/* What the block behind the image gives for a text, with every limit but 0. */
+static void gives_key(const char *name, uint64_t address, const char *words, uint64_t key) {
+    static const uint32_t limits[] = {1, 2, UINT32_MAX};
+    const mdf_applied wanted = {.kind = MDF_KIND_NUMBER, .number = of_bits(key), .checked = 1, .applied = 1};
+    gives_number(name, address, of_text(words), of_bits(key));
+    for (size_t i = 0; i < COUNT_OF(limits); i++) applies_in(name, address, limits[i], NULL, 0, of_text(words), wanted, "");
+}
+
+/* The theorem of the request: each key's text gives the key, and no other text gives one. No text is to have the word "no" in front. */
+static void turns_back(const char *name, uint64_t address, old_block b, const char *const *texts) {
+    char no_key[ROOM];
+    for (size_t i = 0; i < b.keys_len; i++) {
+        gives_key(name, address, texts[i], b.keys[i]);
+        snprintf(no_key, sizeof no_key, "no %s", texts[i]);
+        is_unknown(name, address, of_text(no_key));
+    }
+    is_unknown(name, address, of_text(""));
+    is_unknown(name, address, of_text("no"));
+    is_unchanged(name, address, of_unsigned(1));
+    is_accepted(name, address, 1, 1);
+}
+
+/* ---- blocks that are inverted ---- */
+
+static const char *const gears[] = {"Low", "Lo", "High", "Reverse", "Low|PTO", "low", "\xc2\xb0", "L"};
+static const uint64_t some_keys[] = {0x4000000000000000, 0, 0x3ff0000000000000, 0xbff0000000000000, 0x7ff0000000000000, 0xfff0000000000000, 1,
+                                     0x7fefffffffffffff};
+
+/* Of 0 to 8 keys, with none to two references more than these: a default text, which may be anything. */
+static void sound_blocks(void) {
+    for (size_t keys = 0; keys <= COUNT_OF(gears); keys++) {
+        for (size_t more = 0; more <= 2; more++) {
+            for (int behind = 0; behind < 4; behind++) {
+                begin();
+                uint64_t refs[COUNT_OF(gears) + 2], number = of_refs(0, NULL, 0);
+                for (size_t i = 0; i < keys; i++) refs[i] = text(gears[i]);
+                const uint64_t defaults[] = {text("default"), 0, number, keys ? refs[0] : UINT64_MAX};
+                refs[keys] = refs[keys + 1] = defaults[behind];
+                old_block b = value_to_text(refs, keys + more, some_keys, keys);
+                uint64_t address = put_old(b), at = is_inverted("inverse: a sound block", b, address);
+                if (behind == 0) turns_back("inverse: a text gives its key back", at, b, gears);
+                is_unknown("inverse: the default is not taken over", at, of_text("default"));
+                if (more == 0) break;
+            }
+        }
+    }
+}
+
+/* What the new block takes over of the old one, and what not. */
+static void taken_over(void) {
+    for (int with = 0; with < 64; with++) {
+        begin();
+        uint64_t refs[] = {text(gears[0]), text(gears[1]), text("default")}, linear = of_numbers(1, zero_and_eighth, 2);
+        old_block b = value_to_text(refs, 3, some_keys, 2);
+        if (with & 1) b.name = text("Gear"), b.unit = text("-"), b.comment = 0x2122232425262728;
+        if (with & 2) b.inverse = linear;
+        if (with & 4) b.ranged = 1;
+        if (with & 8) b.reserved = 0xffffffff, b.excess = 8;
+        if (with & 16) b.precision = 255, b.flags = 0xffff;
+        if (with & 32) b.ref_count = 0x5152;
+        uint64_t address = put_old(b);
+        turns_back("inverse: with every field", is_inverted("inverse: every field", b, address), b, gears);
+    }
+}
+
+/* At byte 0, where no link leads but a block may stand, and at odd places, with other bytes behind it or none. */
+static void inverted_anywhere(void) {
+    static const size_t places[] = {0, 1, 63, 64, 4099}, behind[] = {0, 1, 7, 100};
+    for (size_t i = 0; i < COUNT_OF(places) * COUNT_OF(behind); i++) {
+        begin();
+        built_len = places[i / 4];
+        uint64_t refs[3];
+        for (size_t k = 0; k < 3; k++) refs[k] = places[i / 4] + 64 + 16 * 3 + 32 * k;
+        old_block b = value_to_text(refs, 3, some_keys, 3);
+        uint64_t address = put_old(b);
+        for (size_t k = 0; k < 3; k++) text(gears[k]);
+        for (size_t k = 0; k < behind[i % 4]; k++) put(0xff, 1);
+        turns_back("inverse: at any place", is_inverted("inverse: at any place", b, address), b, gears);
+    }
+}
+
+/* ---- refusals of the block ---- */
+
+static void inverse_refusals(void) {
+    begin();
+    uint64_t words = text(gears[0]), keys[] = {bits(1), 0x7ff8000000000000};
+    old_block b = value_to_text(&words, 1, keys, 2); /* 14 at its second key */
+    uint64_t address = put_old(b), end = built_len;
+    key_is_refused("inverse: 14 Key, alone", address, MDF_REFUSED_KEY, 1);
+    for (uint64_t near = 0; near < 24; near++) {
+        not_inverted_at("inverse: 1 Outside, near the image end", end - near, MDF_REFUSED_OUTSIDE);
+        not_inverted_at("inverse: 1 Outside, the largest addresses", UINT64_MAX - near, MDF_REFUSED_OUTSIDE);
+        not_inverted_at("inverse: 1 Outside, the middle of all addresses", (UINT64_C(1) << 63) - near, MDF_REFUSED_OUTSIDE);
+    }
+    not_inverted_at("inverse: 2 NotConversion, a text", words, MDF_REFUSED_NOT_CONVERSION);
+    not_inverted_at("inverse: 2 NotConversion, byte 0", 0, MDF_REFUSED_NOT_CONVERSION);
+    for (int kind = 0; kind < 256; kind++) {
+        put_at(address + 64, (uint64_t)kind, 1);
+        if (kind != 7) not_inverted_at("inverse: 15 WrongType, before 14", address, MDF_REFUSED_WRONG_TYPE);
+        for (uint64_t links = 0; links < FEWEST; links++) {
+            set_links(address, links);
+            not_inverted_at("inverse: 18 FewLinks, before 15", address, MDF_REFUSED_FEW_LINKS);
+        }
+        set_links(address, 5);
+        built_len = end - 1;
+        not_inverted_at("inverse: 4 Short, before 15", address, MDF_REFUSED_SHORT);
+        built_len = end;
+    }
+    put_at(address + 64, 7, 1);
+    static const uint64_t large[] = {8, 260, 65540, UINT64_C(1) << 32, (UINT64_C(1) << 61) + 5, UINT64_C(1) << 63, UINT64_MAX};
+    for (size_t i = 0; i < COUNT_OF(large); i++) {
+        set_links(address, large[i]);
+        not_inverted_at("inverse: 4 Short, a link count that the image does not hold", address, MDF_REFUSED_SHORT);
+    }
+    set_links(address, 3);
+    put_at(address + 3, 'D', 1);
+    not_inverted_at("inverse: 2 before 18", address, MDF_REFUSED_NOT_CONVERSION);
+    built_len = address + 23;
+    not_inverted_at("inverse: 1 before 2", address, MDF_REFUSED_OUTSIDE);
+    built_len = 0;
+    not_inverted_at("inverse: 1 Outside, an empty image", 0, MDF_REFUSED_OUTSIDE);
+}
+
+/* ---- refusals of a key ---- */
+
+#define NO_TEXTS 16
+
+/* What references lead to that is no text for a key, all but the last, which stands at the image end. */
+static void put_no_texts(uint64_t *leads) {
+    static const uint64_t lengths[] = {0, 23, HEADER, UINT64_MAX, UINT64_C(1) << 63};
+    size_t i = 0;
+    leads[i++] = 0;
+    leads[i++] = 1;
+    leads[i++] = UINT64_MAX;
+    leads[i++] = UINT64_C(1) << 32;
+    leads[i++] = of_refs(7, NULL, 0);
+    leads[i++] = text("");
+    leads[i++] = text("wrong id");
+    built[leads[6] + 3] = 'Y';
+    leads[i++] = put_text_block(true, (const uint8_t *)"metadata", 8);
+    leads[i++] = text("a zero in front");
+    put_at(leads[8] + HEADER, 0, 1);
+    for (size_t k = 0; k < COUNT_OF(lengths); k++) {
+        leads[i] = text("another length");
+        put_at(leads[i++] + 8, lengths[k], 8);
+    }
+    leads[i++] = leads[4] + 8;
+}
+
+/* The last: a text of which one byte is missing. */
+static void put_cut_text(uint64_t *leads) {
+    leads[NO_TEXTS - 1] = text("cut");
+    built_len--;
+}
+
+static const uint64_t nans[] = {0x7ff0000000000001, 0x7ff8000000000000, 0x7fffffffffffffff, 0xfff0000000000001, 0xfff8000000000000, UINT64_MAX};
+
+/* Each at each of three indices, behind keys that are sound and before one that is faulty too. */
+static void no_text_cases(void) {
+    for (size_t lead = 0; lead < NO_TEXTS; lead++) {
+        for (uint32_t index = 0; index < 3; index++) {
+            begin();
+            uint64_t leads[NO_TEXTS], sound[] = {text("a"), text("b"), text("c"), 0}, refs[4], keys[4] = {0, bits(1), bits(2), bits(3)};
+            put_no_texts(leads);
+            size_t block_at = built_len;
+            built_len += 64 + 8 * 8;
+            put_cut_text(leads);
+            size_t end = built_len;
+            memcpy(refs, sound, sizeof refs);
+            refs[index] = leads[lead];
+            built_len = block_at;
+            uint64_t address = put_old(value_to_text(refs, 4, keys, 4));
+            built_len = end;
+            key_is_refused("inverse: 12 NotText", address, MDF_REFUSED_NOT_TEXT, index);
+            put_at(address + 64 + 8 * (4 + index), keys[0], 8);
+            key_is_refused("inverse: 12 NotText, before 13 of a key", address, MDF_REFUSED_NOT_TEXT, index);
+            for (size_t i = 0; i < COUNT_OF(nans); i++) {
+                put_at(address + 64 + 8 * (4 + index), nans[i], 8);
+                key_is_refused("inverse: 14 before 12", address, MDF_REFUSED_KEY, index);
+            }
+        }
+    }
+}
+
+/* A text may stand at byte 0, and no link leads there. */
+static void nil_is_no_text(void) {
+    build_text_block(false, (const uint8_t *)"Low", 3);
+    const uint64_t refs[] = {text("High"), 0};
+    a_key_is_refused("inverse: 12 NotText, a text at address 0", value_to_text(refs + 1, 1, some_keys, 1), MDF_REFUSED_NOT_TEXT, 0);
+    a_key_is_refused("inverse: 12 NotText, a text at address 0, second", value_to_text(refs, 2, some_keys, 2), MDF_REFUSED_NOT_TEXT, 1);
+}
+
+/* As many references as there are, and a key more. */
+static void missing_references(void) {
+    for (size_t refs_len = 0; refs_len < COUNT_OF(gears); refs_len++) {
+        begin();
+        uint64_t refs[COUNT_OF(gears)], keys[COUNT_OF(gears)];
+        for (size_t i = 0; i < refs_len; i++) refs[i] = text(gears[i]);
+        for (size_t keys_len = refs_len + 1; keys_len <= COUNT_OF(gears); keys_len++) {
+            memcpy(keys, some_keys, sizeof keys);
+            old_block b = value_to_text(refs, refs_len, keys, keys_len);
+            b.ref_count = (uint16_t)keys_len; /* the field does not count */
+            a_key_is_refused("inverse: 12 NotText, a missing reference", b, MDF_REFUSED_NOT_TEXT, (uint32_t)refs_len);
+            keys[refs_len] = keys[0];
+            a_key_is_refused("inverse: 12 NotText, a missing reference, before 13", b, MDF_REFUSED_NOT_TEXT, (uint32_t)refs_len);
+            keys[refs_len] = nans[refs_len % COUNT_OF(nans)];
+            a_key_is_refused("inverse: 14 Key, before a missing reference", b, MDF_REFUSED_KEY, (uint32_t)refs_len);
+        }
+    }
+}
+
+/* A NaN at each index, and an equal one behind it, which is 14 and not 13: the first is met first. */
+static void nan_keys(void) {
+    begin();
+    uint64_t refs[4], keys[4];
+    for (size_t i = 0; i < 4; i++) refs[i] = text(gears[i]);
+    for (uint32_t index = 0; index < 4; index++) {
+        for (size_t i = 0; i < COUNT_OF(nans); i++) {
+            memcpy(keys, some_keys, sizeof keys);
+            keys[index] = nans[i];
+            keys[3] = nans[i];
+            a_key_is_refused("inverse: 14 Key", value_to_text(refs, 4, keys, 4), MDF_REFUSED_KEY, index);
+            refs[index] = refs[(index + 3) % 4];
+            a_key_is_refused("inverse: 14 before 13 of a text", value_to_text(refs, 4, keys, 4), MDF_REFUSED_KEY, index);
+            refs[index] = text(gears[index]);
+        }
+    }
+}
+
+/* Two of six keys that are equal as floats, with texts of their own. */
+static void repeated_keys(void) {
+    static const uint64_t pairs_of[][2] = {{0, 0}, {0, 0x8000000000000000}, {0x8000000000000000, 0}, {1, 1}, {0x7ff0000000000000, 0x7ff0000000000000},
+                                           {0x4000000000000000, 0x4000000000000000}};
+    begin();
+    uint64_t refs[6];
+    for (size_t i = 0; i < 6; i++) refs[i] = text(gears[i]);
+    for (uint32_t first = 0; first < 6; first++) {
+        for (uint32_t second = first + 1; second < 6; second++) {
+            for (size_t i = 0; i < COUNT_OF(pairs_of); i++) {
+                uint64_t keys[] = {bits(10), bits(11), bits(12), bits(13), bits(14), bits(15)};
+                keys[first] = pairs_of[i][0];
+                keys[second] = pairs_of[i][1];
+                a_key_is_refused("inverse: 13 Repeated, a key", value_to_text(refs, 6, keys, 6), MDF_REFUSED_REPEATED, second);
+            }
+        }
+    }
+}
+
+/* Of one zero its sign is kept. Neighbours are not equal. */
+static void near_keys(void) {
+    static const uint64_t sets[][4] = {{0x8000000000000000, 1, 0x8000000000000001, 2},
+                                       {0, 0x8000000000000001, 1, 0x0010000000000000},
+                                       {0x3ff0000000000000, 0x3ff0000000000001, 0x3fefffffffffffff, 0xbff0000000000000},
+                                       {0x7ff0000000000000, 0xfff0000000000000, 0x7fefffffffffffff, 0xffefffffffffffff}};
+    for (size_t i = 0; i < COUNT_OF(sets); i++) {
+        begin();
+        uint64_t refs[4];
+        for (size_t k = 0; k < 4; k++) refs[k] = text(gears[k]);
+        old_block b = value_to_text(refs, 4, sets[i], 4);
+        uint64_t address = put_old(b);
+        turns_back("inverse: keys that are near each other", is_inverted("inverse: keys that are near each other", b, address), b, gears);
+    }
+}
+
+/* A text in a block of exactly its length, with no zero at its end, and one with other bytes behind its first zero. */
+static uint64_t text_without_end(const char *words) {
+    uint64_t address = built_len;
+    put_header("##TX", HEADER + strlen(words), 0);
+    memcpy(built + built_len, words, strlen(words));
+    built_len += strlen(words);
+    return address;
+}
+
+static uint64_t text_with_more(const char *words) {
+    uint64_t address = text(words);
+    put_at(address + 8, built_len - address + 16, 8);
+    put(0x4142434445464748, 8);
+    put(0, 8);
+    return address;
+}
+
+/* Equal texts at one address and at two, however their blocks are made, at each pair of six indices. */
+static void repeated_texts(void) {
+    for (uint32_t first = 0; first < 6; first++) {
+        for (uint32_t second = first + 1; second < 6; second++) {
+            begin();
+            uint64_t refs[6];
+            for (size_t i = 0; i < 6; i++) refs[i] = text(gears[i]);
+            const uint64_t same[] = {refs[first], text(gears[first]), text_without_end(gears[first]), text_with_more(gears[first])};
+            for (size_t i = 0; i < COUNT_OF(same); i++) {
+                refs[second] = same[i];
+                old_block b = value_to_text(refs, 6, some_keys, 6);
+                a_key_is_refused("inverse: 13 Repeated, a text", b, MDF_REFUSED_REPEATED, second);
+            }
+        }
+    }
+}
+
+/* Texts that are nearly equal: one byte differs, at each place; one is longer by a byte; or the same bytes stand in another order. */
+static void near_texts(void) {
+    static const char long_words[] = "abcdefghijklmnopqrstuvwxyzabcdefghijklmnop";
+    char other_words[sizeof long_words];
+    for (size_t place = 0; place + 1 < sizeof long_words; place++) {
+        for (int how = 0; how < 4; how++) {
+            memcpy(other_words, long_words, sizeof long_words);
+            char *at = other_words + place;
+            if (how == 0) at[0] = (char)(at[0] ^ 0x80);
+            if (how == 1) at[0] = '!';
+            if (how == 2) at[0] = 0; /* cut here: at place 0 it is empty */
+            if (how == 3 && at[1] != 0) at[0] = long_words[place + 1], at[1] = long_words[place];
+            const char *texts[] = {long_words, other_words};
+            begin();
+            const uint64_t refs[] = {text(long_words), how % 2 ? text(other_words) : text_without_end(other_words)};
+            old_block b = value_to_text(refs, 2, some_keys, 2);
+            uint64_t address = put_old(b);
+            if (how == 2 && place == 0) {
+                key_is_refused("inverse: 12 NotText, an empty text", address, MDF_REFUSED_NOT_TEXT, 1);
+            } else if (strcmp(long_words, other_words) == 0) {
+                key_is_refused("inverse: 13 Repeated, a long text", address, MDF_REFUSED_REPEATED, 1);
+            } else {
+                turns_back("inverse: texts that are nearly equal", is_inverted("inverse: texts that are nearly equal", b, address), b, texts);
+            }
+        }
+    }
+}
+
+/* Two faults of every kind at two indices: the first index decides. */
+static void first_of_two_faults(void) {
+    for (int kinds = 0; kinds < 16; kinds++) {
+        begin();
+        uint64_t refs[6], keys[6];
+        for (size_t i = 0; i < 6; i++) refs[i] = text(gears[i]);
+        memcpy(keys, some_keys, sizeof keys);
+        static const uint32_t indices[] = {2, 4};
+        uint32_t wanted = 0;
+        for (int which = 1; which >= 0; which--) {
+            uint32_t at = indices[which];
+            switch (kinds >> (2 * which) & 3) {
+            case 0: keys[at] = nans[0], wanted = MDF_REFUSED_KEY; break;
+            case 1: refs[at] = 0, wanted = MDF_REFUSED_NOT_TEXT; break;
+            case 2: refs[at] = text(gears[0]), wanted = MDF_REFUSED_REPEATED; break;
+            default: keys[at] = keys[1] ^ 0x8000000000000000, wanted = MDF_REFUSED_REPEATED; /* key 1 is 0 */
+            }
+        }
+        a_key_is_refused("inverse: the first of two faults", value_to_text(refs, 6, keys, 6), wanted, 2);
+    }
+}
+
+/* ---- many keys ---- */
+
+static uint64_t many_refs[MOST_KEYS], many_keys[MOST_KEYS];
+
+/* 600 keys, the k-th of them k, with the texts "t0" to "t599". Nothing behind them is built yet. */
+static old_block build_many(void) {
+    char words[16];
+    begin();
+    for (size_t i = 0; i < MOST_KEYS; i++) {
+        snprintf(words, sizeof words, "t%zu", i);
+        many_refs[i] = text(words);
+        many_keys[i] = bits((double)i);
+    }
+    return value_to_text(many_refs, MOST_KEYS, many_keys, MOST_KEYS);
+}
+
+static void many_keys_cases(void) {
+    static const size_t places[] = {0, 1, 100, 253, 254, 255, 256, 257, 300, 508, 509, 510, 511, 512, 598, 599};
+    old_block b = build_many();
+    for (size_t i = 0; i < COUNT_OF(places); i++) {
+        for (size_t k = i + 1; k < COUNT_OF(places); k++) {
+            size_t first = places[i], second = places[k];
+            uint64_t ref = many_refs[second], key = many_keys[second];
+            many_refs[second] = many_refs[first];
+            a_key_is_refused("inverse: 13 Repeated, one address twice among 600", b, MDF_REFUSED_REPEATED, (uint32_t)second);
+            size_t end = built_len;
+            many_refs[second] = put_text_block(false, built + many_refs[first] + HEADER, strlen((const char *)built + many_refs[first] + HEADER));
+            a_key_is_refused("inverse: 13 Repeated, a text of 600", b, MDF_REFUSED_REPEATED, (uint32_t)second);
+            memset(built + end, 0, built_len - end);
+            built_len = end;
+            many_refs[second] = ref;
+            many_keys[second] = many_keys[first];
+            a_key_is_refused("inverse: 13 Repeated, a key of 600", b, MDF_REFUSED_REPEATED, (uint32_t)second);
+            many_keys[second] = key;
+        }
+    }
+    uint64_t address = put_old(b), at = is_inverted("inverse: 600 keys", b, address);
+    for (size_t i = 0; i < COUNT_OF(places); i++) {
+        gives_key("inverse: 600 keys, turned back", at, (const char *)built + many_refs[places[i]] + HEADER, many_keys[places[i]]);
+    }
+    is_unknown("inverse: 600 keys, another text", at, of_text("t600"));
+}
+
+/* ---- drawn blocks ---- */
+
+static uint64_t drawn_state = 0x9e3779b97f4a7c15;
+
+static size_t drawn(size_t below) {
+    drawn_state ^= drawn_state << 13;
+    drawn_state ^= drawn_state >> 7;
+    drawn_state ^= drawn_state << 17;
+    return (size_t)(drawn_state >> 11) % below;
+}
+
+/* The words of the ##TX block that stands at a link of a drawn image; NULL if none does. */
+typedef struct {
+    uint64_t link;
+    const char *words;
+} drawn_text;
+
+static const char *words_at(const drawn_text *texts, size_t count, uint64_t link) {
+    for (size_t i = 0; i < count; i++) {
+        if (texts[i].link == link) return texts[i].words;
+    }
+    return NULL;
+}
+
+/* The first fault of the keys, in the request's words: "first met in index order ..; at one index 14, then 12, then 13". */
+static mdf_inverted fault_of(old_block b, const drawn_text *texts, size_t count) {
+    mdf_inverted none = {.refusal = 0};
+    for (uint32_t i = 0; i < b.keys_len; i++) {
+        mdf_inverted fault = {.refusal = MDF_REFUSED_KEY, .index = i};
+        if (isnan(of_bits(b.keys[i]))) return fault;
+        const char *words = i < b.refs_len ? words_at(texts, count, b.refs[i]) : NULL;
+        fault.refusal = MDF_REFUSED_NOT_TEXT;
+        if (words == NULL || words[0] == 0) return fault;
+        fault.refusal = MDF_REFUSED_REPEATED;
+        for (uint32_t k = 0; k < i; k++) {
+            if (of_bits(b.keys[k]) == of_bits(b.keys[i]) || strcmp(words_at(texts, count, b.refs[k]), words) == 0) return fault;
+        }
+    }
+    return none;
+}
+
+/* Blocks of up to 12 keys, drawn so that about half have a fault. */
+static void drawn_blocks(void) {
+    static const char *const words[] = {"a", "b", "ab", "ba", "abc", "abcd", "B", "aa", "bb", "longer than eight", "longer than nine", "x", "y", "z", ""};
+    enum { TEXTS = 2 * COUNT_OF(words) };
+    int sound = 0, faulty = 0;
+    for (int round = 0; round < 3000; round++) {
+        drawn_text texts[TEXTS];
+        uint64_t refs[16], keys[12];
+        begin();
+        for (size_t i = 0; i < TEXTS; i++) {
+            texts[i].words = words[i % COUNT_OF(words)];
+            texts[i].link = i % 3 == 0 ? text_without_end(texts[i].words) : text(texts[i].words);
+        }
+        const uint64_t others[] = {0, texts[0].link + 1, of_refs(7, NULL, 0), put_text_block(true, (const uint8_t *)"md", 2), UINT64_MAX};
+        old_block b = value_to_text(refs, drawn(8) ? 12 + drawn(5) : drawn(12), keys, drawn(13));
+        for (size_t i = 0; i < b.refs_len; i++) refs[i] = drawn(60) ? texts[drawn(40) ? (i * 2) % (TEXTS - 2) : drawn(TEXTS)].link : others[drawn(5)];
+        for (size_t i = 0; i < b.keys_len; i++) keys[i] = drawn(60) ? bits((double)(drawn(40) ? (int)i : (int)drawn(6)) * (drawn(2) ? 1 : -1)) : nans[drawn(6)];
+        uint64_t address = put_old(b);
+        mdf_inverted fault = fault_of(b, texts, TEXTS);
+        if (fault.refusal == 0) {
+            is_inverted("inverse: a drawn block", b, address);
+            sound++;
+        } else {
+            not_inverted("inverse: a drawn block with a fault", address, fault);
+            faulty++;
+        }
+    }
+    expect(sound > 300 && faulty > 300, "inverse: of the drawn blocks many are sound and many are not");
+}
+
+/* 600 texts of two letters each, all shorter than 30, so that many begin alike and, in most rounds, one is equal to an earlier one. */
+static void drawn_texts(void) {
+    static char words[MOST_KEYS][32];
+    int early = 0, late = 0, none = 0;
+    for (size_t round = 0; round < 100; round++) {
+        size_t longest = 5 + round % 25, first = MOST_KEYS;
+        old_block b = build_many();
+        begin();
+        for (size_t i = 0; i < MOST_KEYS; i++) {
+            memset(words[i], 0, sizeof words[i]);
+            for (size_t k = longest - drawn(4); k > 0; k--) words[i][k - 1] = (char)('a' + drawn(2));
+            many_refs[i] = drawn(2) ? text(words[i]) : text_without_end(words[i]);
+            for (size_t k = 0; k < i && first == MOST_KEYS; k++) {
+                if (strcmp(words[k], words[i]) == 0) first = i;
+            }
+        }
+        uint64_t address = put_old(b);
+        if (first == MOST_KEYS) {
+            is_inverted("inverse: drawn texts", b, address);
+            none++;
+        } else {
+            key_is_refused("inverse: drawn texts, one repeated", address, MDF_REFUSED_REPEATED, (uint32_t)first);
+            *(first < 255 ? &early : &late) += 1;
+        }
+    }
+    expect(early > 10 && late > 10 && none > 10, "inverse: of the drawn texts some repeat early, some late and some never");
+}
+
+static void inverse_cases(void) {
+    sound_blocks();
+    taken_over();
+    inverted_anywhere();
+    inverse_refusals();
+    no_text_cases();
+    nil_is_no_text();
+    missing_references();
+    nan_keys();
+    repeated_keys();
+    near_keys();
+    repeated_texts();
+    near_texts();
+    first_of_two_faults();
+    many_keys_cases();
+    drawn_blocks();
+    drawn_texts();
+}
+
 int main(void) {
     linear_cases();
     rounding_cases();
@@ -1923,6 +2557,7 @@ int main(void) {
     few_links_order_cases();
     padding_cases();
     text_block_cases();
+    inverse_cases();
     printf("C face: %d cases passed, %d failed\n", passed, failed);
     return failed ? 1 : 0;
 }

@@ -23,11 +23,14 @@ pub fn inverted_face(w: Written) -> MdfInverted
             address: 0,
             length: n as u64,
         },
-        Written::Unwritten(r) => MdfInverted {
-            refusal: r.number() as u32,
-            index: r.index(),
-            address: address_or(r.address()),
-            length: 0,
-        },
+        Written::Unwritten(r) => {
+            let refusal = r.number() as u32;
+            MdfInverted {
+                refusal,
+                index: r.index(),
+                address: address_or(r.address()),
+                length: 0,
+            }
+        }
     }
 }

@@ -96,7 +96,9 @@ fn invert_block(b: Block, image: &[u8], address: u64, out: &mut [u8]) -> Written
 // The text to value block that matches the value to text block at an address of an image, from byte 0 of `out` on. Behind the end of the image it turns
 // each key's text back into that key.
 //
-// Work: of n keys at most n * n / 2 comparisons of keys, and what looking for a repeated text takes (crate repeats); then 16 bytes a key are written.
+// Work: of n keys at most n * n / 2 comparisons of keys, and what looking for a repeated text takes (crate repeats): as many short steps, and for each 255
+// keys at most twice the length of each text behind them; then 16 bytes a key are written. The worst image has 65,535 keys whose texts share long
+// beginnings; docs/BENCHMARKS.md has what it costs, at two sizes.
 pub fn invert(image: &[u8], address: u64, out: &mut [u8]) -> Written
     ensures { λ r. ⌜ writeCall r (now (out .exit)) ≡ inverting (now (image .entry)) address (now (out .entry)) ⌝ }
 {

@@ -10,7 +10,7 @@ use lib.Dec.{ltb}
 use Rattle.words.proofs.Clash.{clash}
 use Rattle.blocks.specs.declared.view.View.{View}
 use Rattle.repeats.specs.Repeats.{textAt}
-use Rattle.repeats.specs.Scan.{numbered, Agreed, Numbered, Held, Apart, Behind, Again, FirstRepeat, Gone}
+use Rattle.repeats.specs.Scan.{numbered, Agreed, Numbered, Held, Told, Apart, Behind, Again, FirstRepeat, Gone}
 use Rattle.repeats.proofs.Numbers.{number-is}
 
 module _ (img : List ℕ) (b : View) (start : ℕ) where
@@ -22,6 +22,19 @@ module _ (img : List ℕ) (b : View) (start : ℕ) where
   pub not-held : (q agree : List ℕ) (m : ℕ) (r : Bool) → r ≡ false → Held img b start q agree m r → Agreed img b start q agree m
   not-held q agree m true e h = clash cc
   not-held q agree m false e h = h
+
+  -- and without what it has in common with them
+  pub held-tells : (q agree : List ℕ) (m : ℕ) (r : Bool) → Held img b start q agree m r → Told img b start q m r
+  held-tells q agree m true h = h
+  held-tells q agree m false h = λ k less. h k less .1
+
+  pub told : (q : List ℕ) (m : ℕ) (r : Bool) → r ≡ true → Told img b start q m r → Numbered img b start q m
+  told q m true e h = h
+  told q m false e h = clash cc
+
+  pub not-told : (q : List ℕ) (m : ℕ) (r : Bool) → r ≡ false → Told img b start q m r → (k : ℕ) → k < m → 0 < k → q ≡ numbered img b start k → ⊥
+  not-told q m true e h = clash cc
+  not-told q m false e h = h
 
   -- ---- the numbers under m are those of texts before the i-th
   module _ (q : List ℕ) (m i : ℕ) (is : q ≡ textAt img b i) (fits : start + m ≤ i + 1) where

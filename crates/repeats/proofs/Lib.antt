@@ -4,3 +4,4 @@ pub mod Runs
 pub mod Numbers
 pub mod Chunks
 pub mod Firsts
+pub mod Hashes

@@ -1,5 +1,5 @@
 -- For inner contracts: what the search for a repeated text keeps of the texts that it has seen. Assumes nothing: these are definitions.
-use Prim.Native.Nat.{ℕ, zero, suc, _+_, _-_, _≤_, _<_}
+use Prim.Native.Nat.{ℕ, zero, suc, _+_, _-_, _*_, _%_, _≤_, _<_}
 use mathlib.Core.Path.{_≡_}
 use mathlib.Core.Bool.{Bool, true, false, cond}
 use mathlib.Core.List.{List, [], _∷_}
@@ -76,6 +76,27 @@ pub record Numbered (img : List ℕ) (b : View) (start : ℕ) (q : List ℕ) (m 
 abbrev pub Held : List ℕ → View → ℕ → List ℕ → List ℕ → ℕ → Bool → Type 0
 Held img b start q agree m true = Numbered img b start q m
 Held img b start q agree m false = Agreed img b start q agree m
+
+-- the same without what it has in common with them: it is one of them, or none
+abbrev pub Told : List ℕ → View → ℕ → List ℕ → ℕ → Bool → Type 0
+Told img b start q m true = Numbered img b start q m
+Told img b start q m false = (k : ℕ) → k < m → 0 < k → q ≡ numbered img b start k → ⊥
+
+-- a text's hash: each byte is added to what the bytes before it give times a number, in 32 bits
+unfoldable pub hashFrom : ℕ → List ℕ → ℕ
+hashFrom h [] = h
+hashFrom h (b ∷ bs) = hashFrom ((h * 16777619 + b) % 4294967296) bs
+
+unfoldable pub hashOf : List ℕ → ℕ
+hashOf bs = hashFrom 2166136261 bs
+
+-- the hashes of the m texts from the index `start` on
+abbrev pub Hashed : List ℕ → View → ℕ → ℕ → List ℕ → Type 0
+Hashed img b start m hashes = (k : ℕ) → k < m → getD hashes k 0 ≡ hashOf (textAt img b (start + k))
+
+-- no is answered only where none of the first m hashes is h
+abbrev pub NoneIs : List ℕ → ℕ → ℕ → Bool → Type 0
+NoneIs hashes m h r = r ≡ false → (k : ℕ) → k < m → getD hashes k 0 ≡ h → ⊥
 
 -- none of the first m numbers passes the length of q
 abbrev pub Within : List ℕ → List ℕ → ℕ → Type 0

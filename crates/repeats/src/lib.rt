@@ -5,6 +5,10 @@
 // byte behind them. A text is held against those of the chunk in order: from what it has in common with one follows, for most, what it has in common
 // with a later one. No byte of it is found to match twice in a chunk, so a chunk costs a text at most its length and 255 short steps.
 //
+// Most texts behind a chunk are none of the chunk's: so each text of the chunk has a hash, and a text behind it is held against the chunk only if
+// its own hash, for which its bytes are read once, is one of those. A file gains nothing by equal hashes: its texts are then held against the chunk,
+// at the cost above.
+//
 // The texts of a chunk have the numbers from 1 on. Number 0 is the empty text, so that every other number has one below it.
 use blocks::view::View;
 use leads::lead::Lead;
@@ -14,6 +18,7 @@ ghost use Prim.Native.Nat.{_+_, _-_, min, _≤_, _<_};
 ghost use lib.ListN.{length, getD};
 ghost use Rattle.repeats.specs.Repeats.{textAt, textRepeated, firstOf};
 ghost use Rattle.repeats.specs.Scan.{inCommon, runText, RunIn, RunOf, MetBy, Through, Rows, Kept, Held, Within, Grown, FirstRepeat, Filled, Gone};
+ghost use Rattle.repeats.specs.Scan.{Told, hashOf, Hashed, NoneIs};
 
 // Where a text may run in the image; it ends at the first zero byte there.
 pub struct Run {
@@ -207,6 +212,78 @@ fn fill(
     i
 }
 
+// The hash of a text, 32 bits wide.
+fn hash_of(image: &[u8], q: Run) -> u32
+    requires { ⌜ RunIn (now image) q ⌝ }
+    ensures { λ r. ⌜ r ≡ hashOf (runText (now (image .entry)) q) ⌝ }
+{
+    let to = q.to;
+    let mut h: u64 = 2166136261;
+    let mut i = q.from;
+    while i < to {
+        let byte = image[i] as u64;
+        if byte == 0 {
+            return h as u32;
+        }
+        h = (h * 16777619 + byte) % 4294967296;
+        i += 1;
+    }
+    h as u32
+}
+
+// The hashes of the chunk's texts, which are those of the indexes from `start` up to `stop`.
+fn hash_all(image: &[u8], b: View, start: usize, stop: usize, hashes: &mut [u32])
+    requires { ⌜ (start ≤ stop) × (stop ≤ start + 255) × (length (now hashes) ≡ 256) ⌝ }
+    ensures { λ _. ⌜ Hashed (now (image .entry)) b start (stop - start) (now (hashes .exit)) ⌝ }
+{
+    let count = stop - start;
+    let mut k = 0;
+    while k < count {
+        let q = run_at(image, b, start + k);
+        hashes[k] = hash_of(image, q);
+        k += 1;
+    }
+}
+
+// Whether one of the first `count` hashes is h. It does not stop at the first, so that the compiler can compare several at a time.
+fn is_among(hashes: &[u32], count: usize, h: u32) -> bool
+    requires { ⌜ count ≤ length (now hashes) ⌝ }
+    ensures { λ r. ⌜ NoneIs (now (hashes .entry)) count h r ⌝ }
+{
+    let mut found = false;
+    let mut k = 0;
+    while k < count {
+        found = found | (hashes[k] == h);
+        k += 1;
+    }
+    found
+}
+
+// Whether the text q is that of a number under `count`. Its hash tells, for most, that it is not.
+fn is_one_of(
+    image: &[u8],
+    b: View,
+    start: usize,
+    q: Run,
+    below: &[u16],
+    shared: &[usize],
+    marks: &[u16],
+    agree: &mut [usize],
+    count: usize,
+    hashes: &[u32],
+) -> bool
+    requires { ⌜ RunIn (now image) q × (start ≤ 65535) × (0 < count) × (count ≤ 256) ⌝ }
+    requires { ⌜ Rows (now below) (now shared) (now marks) (now agree) ⌝ }
+    requires { ⌜ Kept (now image) b start (now below) (now shared) (now marks) count ⌝ }
+    requires { ⌜ (length (now hashes) ≡ 256) × Hashed (now image) b start (count - 1) (now hashes) ⌝ }
+    ensures { λ r. ⌜ Told (now (image .entry)) b start (runText (now (image .entry)) q) count r ⌝ }
+{
+    if is_among(hashes, count - 1, hash_of(image, q)) {
+        return hold(image, b, start, q, below, shared, marks, agree, count);
+    }
+    false
+}
+
 // The texts behind the chunk, from the index `stop` on: the first under `bound` that is equal to one of the chunk's, or `bound`.
 fn search(
     image: &[u8],
@@ -218,17 +295,30 @@ fn search(
     shared: &[usize],
     marks: &[u16],
     agree: &mut [usize],
+    hashes: &[u32],
 ) -> usize
     requires { ⌜ (start ≤ stop) × (stop ≤ start + 255) × (stop ≤ bound) × (bound ≤ 65535) ⌝ }
     requires { ⌜ Rows (now below) (now shared) (now marks) (now agree) ⌝ }
     requires { ⌜ Kept (now image) b start (now below) (now shared) (now marks) (stop - start + 1) ⌝ }
+    requires { ⌜ (length (now hashes) ≡ 256) × Hashed (now image) b start (stop - start) (now hashes) ⌝ }
     ensures { λ r. ⌜ Gone (now (image .entry)) b start stop bound r ⌝ }
 {
     let count = stop - start + 1;
     let mut i = stop;
     while i < bound {
         let q = run_at(image, b, i);
-        if hold(image, b, start, q, below, shared, marks, agree, count) {
+        if is_one_of(
+            image,
+            b,
+            start,
+            q,
+            below,
+            shared,
+            marks,
+            agree,
+            count,
+            hashes,
+        ) {
             return i;
         }
         i += 1;
@@ -260,6 +350,7 @@ fn repeat_of(image: &[u8], b: View, start: usize, bound: usize) -> usize
     let mut shared = [start; NUMBERS];
     let mut marks = [small; NUMBERS];
     let mut agree = [start; NUMBERS];
+    let mut hashes = [start as u32; NUMBERS];
     let stop = stop_of(start, bound);
     let r = fill(
         image,
@@ -274,6 +365,7 @@ fn repeat_of(image: &[u8], b: View, start: usize, bound: usize) -> usize
     if r < stop {
         return r;
     }
+    hash_all(image, b, start, stop, &mut hashes);
     search(
         image,
         b,
@@ -284,6 +376,7 @@ fn repeat_of(image: &[u8], b: View, start: usize, bound: usize) -> usize
         &shared,
         &marks,
         &mut agree,
+        &hashes,
     )
 }
 

@@ -37,7 +37,7 @@ use Rattle.conversion.specs.declared.logic.Answer.the-variants as answer
 use Rattle.restored.proofs.Restored.{once, key-restored, same-bits, other-unknown}
 
 -- the new block's bytes
-abbrev newBlock : List ℕ → Block → List ℕ
+abbrev pub newBlock : List ℕ → Block → List ℕ
 newBlock img b = blockBytes (inverseOf b) (words img (b .firstref) (b .valcount)) (words img (b .firstval) (b .valcount))
 
 pub record Made (img : List ℕ) (a : ℕ) (out : List ℕ) (n : ℕ) (b : Block) : Type 0 where
@@ -91,23 +91,38 @@ module _ (img : List ℕ) (a : ℕ) (out : List ℕ) (n : ℕ) (answered : inver
         let long : n ≡ length (newBlock img b) = m .size ∙ sym (length-of img b) in
         ap (take n) (m .output) ∙ ap (λ (k : ℕ). take k (newBlock img b ++ drop n out)) long ∙ take-append-seam (newBlock img b) (drop n out)
 
-    behind : img ++ take n (inverting img a out .output) ≡ img ++ (newBlock img b ++ [])
-    behind = ap (λ (x : List ℕ). img ++ x) (taken ∙ sym (append-nil (newBlock img b)))
+    behind : (gap : List ℕ) → (img ++ gap) ++ take n (inverting img a out .output) ≡ (img ++ gap) ++ (newBlock img b ++ [])
+    behind gap = ap (λ (x : List ℕ). (img ++ gap) ++ x) (taken ∙ sym (append-nil (newBlock img b)))
 
-    -- request [7]: the text of a key gives that key, for every limit from 1 on, in every mode; one block is visited, and one begun
+    -- request [7], also with a gap between the old image and the new block, such as zeros up to a multiple of 8: the text of a key gives that key, for every
+    -- limit from 1 on, in every mode; one block is visited, and one begun
+    pub restored-behind : Bytes img → (gap : List ℕ) (i : ℕ) → i < b .valcount → (mode : Mode) (l : ℕ) → 1 ≤ l → (o : List ℕ)
+        → applying mode ((img ++ gap) ++ take n (inverting img a out .output)) (length (img ++ gap)) l given.Text (textAt img (viewOf b) i) o
+        ≡ once (answer.Number (keyAt img (viewOf b) i)) o
+    restored-behind h gap i less mode l some o =
+        ap (λ (x : List ℕ). applying mode x (length (img ++ gap)) l given.Text (textAt img (viewOf b) i) o) (behind gap)
+        ∙ key-restored img h a b whole (made .sound) gap [] i less mode l some o
+
+    -- the same in the request's words: set behind the end of the old image
     pub restored : Bytes img → (i : ℕ) → i < b .valcount → (mode : Mode) (l : ℕ) → 1 ≤ l → (o : List ℕ)
         → applying mode (img ++ take n (inverting img a out .output)) (length img) l given.Text (textAt img (viewOf b) i) o
         ≡ once (answer.Number (keyAt img (viewOf b) i)) o
     restored h i less mode l some o =
-        ap (λ (x : List ℕ). applying mode x (length img) l given.Text (textAt img (viewOf b) i) o) behind
-        ∙ key-restored img h a b whole (made .sound) [] i less mode l some o
+        ap (λ (x : List ℕ). applying mode (x ++ take n (inverting img a out .output)) (length x) l given.Text (textAt img (viewOf b) i) o) (sym (append-nil img))
+        ∙ restored-behind h [] i less mode l some o
 
     -- and that is the key's own 64 bits
     pub restored-bits : Bytes img → (i : ℕ) → i < b .valcount → toBits binary64 (keyAt img (viewOf b) i) ≡ word64 img (b .firstval + 8 * i)
-    restored-bits h i less = same-bits img h a b whole (made .sound) [] i less
+    restored-bits h i less = same-bits img h a b whole (made .sound) [] [] i less
 
     -- a text that is no key's is unknown
+    pub unknown-behind : Bytes img → (gap t : List ℕ) → ((j : ℕ) → j < b .valcount → textAt img (viewOf b) j ≡ t → ⊥) → (mode : Mode) (l : ℕ) → 1 ≤ l
+        → (o : List ℕ) → applying mode ((img ++ gap) ++ take n (inverting img a out .output)) (length (img ++ gap)) l given.Text t o ≡ once answer.Unknown o
+    unknown-behind h gap t none mode l some o =
+        ap (λ (x : List ℕ). applying mode x (length (img ++ gap)) l given.Text t o) (behind gap) ∙ other-unknown img h a b whole (made .sound) gap [] t none mode l some o
+
     pub unknown : Bytes img → (t : List ℕ) → ((j : ℕ) → j < b .valcount → textAt img (viewOf b) j ≡ t → ⊥) → (mode : Mode) (l : ℕ) → 1 ≤ l
         → (o : List ℕ) → applying mode (img ++ take n (inverting img a out .output)) (length img) l given.Text t o ≡ once answer.Unknown o
     unknown h t none mode l some o =
-        ap (λ (x : List ℕ). applying mode x (length img) l given.Text t o) behind ∙ other-unknown img h a b whole (made .sound) [] t none mode l some o
+        ap (λ (x : List ℕ). applying mode (x ++ take n (inverting img a out .output)) (length x) l given.Text t o) (sym (append-nil img))
+        ∙ unknown-behind h [] t none mode l some o

@@ -2,7 +2,7 @@
 -- any other text is Unknown. Assumes nothing.
 use mathlib.Core.Path.{_≡_, refl, sym, ap, subst, _∙_}
 use mathlib.Core.Bool.{Bool, true, false, not, _||_, cond}
-use mathlib.Core.List.{List, [], _∷_, _++_, append-nil}
+use mathlib.Core.List.{List, [], _∷_, _++_, append-assoc}
 use Prim.Native.Nat.{ℕ, zero, suc, _+_, _-_, _*_, _^_, _≤_, _<_}
 use native.Mathlib.Omega.{arith}
 use borrow.Author.Tests.{ltb-true, ltb-false, eqb-true, eqb-false, ne-eqb, eq-eqb}
@@ -122,9 +122,9 @@ module _ (img : List ℕ) (P : ℕ → Type 0) (g : ℕ → ℕ) where
 abbrev pub once : Answer → List ℕ → Call
 once r o = call (record { answer = r; checked = 1; applied = 1; malformed = false }) o
 
--- ---- the new block behind the image that it was made from; whatever stands behind it in turn plays no part
+-- ---- the new block behind the image that it was made from; whatever stands between them, and behind the new block, plays no part
 module _ (img : List ℕ) (h : Bytes img) (a : ℕ) (b : Block) (whole : parsed img a ≡ Whole b)
-    (sound : firstFault img (viewOf b) 0 (b .valcount) ≡ Faultless) (rest : List ℕ) where
+    (sound : firstFault img (viewOf b) 0 (b .valcount) ≡ Faultless) (gap rest : List ℕ) where
   abbrev n : ℕ
   n = b .valcount
 
@@ -135,10 +135,20 @@ module _ (img : List ℕ) (h : Bytes img) (a : ℕ) (b : Block) (whole : parsed 
   values = words img (b .firstval) n
 
   abbrev image : List ℕ
-  image = img ++ (blockBytes (inverseOf b) refs values ++ rest)
+  image = (img ++ gap) ++ (blockBytes (inverseOf b) refs values ++ rest)
+
+  abbrev place : ℕ
+  place = length (img ++ gap)
+
+  -- all that stands behind the old image
+  abbrev behind : List ℕ
+  behind = gap ++ (blockBytes (inverseOf b) refs values ++ rest)
+
+  shape : image ≡ img ++ behind
+  shape = append-assoc img gap (blockBytes (inverseOf b) refs values ++ rest)
 
   abbrev new : Block
-  new = stored (length img) (inverseOf b) (length refs) (length values)
+  new = stored place (inverseOf b) (length refs) (length values)
 
   same : b ≡ blockAt img a
   same = parsed-whole img a b whole .same
@@ -165,10 +175,10 @@ module _ (img : List ℕ) (h : Bytes img) (a : ℕ) (b : Block) (whole : parsed 
   counts : (length refs ≡ n) × (length values ≡ n)
   counts = (length-words img (b .firstref) n, length-words img (b .firstval) n)
 
-  parses : parsed image (length img) ≡ Whole new
+  parses : parsed image place ≡ Whole new
   unfolding writeSize
   parses =
-      parse-written img rest (inverseOf b) refs values sized (omega (arith, counts .1, sized .refcount)) (omega (arith, counts .0, counts .1, sized .refcount)) refl
+      parse-written (img ++ gap) rest (inverseOf b) refs values sized (omega (arith, counts .1, sized .refcount)) (omega (arith, counts .0, counts .1, sized .refcount)) refl
 
   few : n ≤ b .links - 4
   few = references-enough img (viewOf b) n sound
@@ -180,12 +190,12 @@ module _ (img : List ℕ) (h : Bytes img) (a : ℕ) (b : Block) (whole : parsed 
   reference-is : (i : ℕ) → referenceIn image (viewOf new) i ≡ wordIn img (b .firstref) n i
   unfolding referenceIn referenceOf
   reference-is i =
-      references-written img rest (inverseOf b) refs values (words-small img h (b .firstref) n) i ∙ sym (by-place img (b .firstref) n i (places .0))
+      references-written (img ++ gap) rest (inverseOf b) refs values (words-small img h (b .firstref) n) i ∙ sym (by-place img (b .firstref) n i (places .0))
 
   value-is : (i : ℕ) → valueIn image (viewOf new) i ≡ asValue (wordIn img (b .firstval) n i)
   unfolding valueIn valueWordIn valueWordOf
   value-is i =
-      ap asValue (values-written img rest (inverseOf b) refs values (words-small img h (b .firstval) n) i ∙ sym (by-place img (b .firstval) n i (places .1)))
+      ap asValue (values-written (img ++ gap) rest (inverseOf b) refs values (words-small img h (b .firstval) n) i ∙ sym (by-place img (b .firstval) n i (places .1)))
 
   -- ---- the i-th key's link leads to a text of the old image, from the new block too
   module _ (i : ℕ) (less : i < n) where
@@ -220,7 +230,7 @@ module _ (img : List ℕ) (h : Bytes img) (a : ℕ) (b : Block) (whole : parsed 
     unfolding leadAt leadOf
     new-lead =
         ap (byLink image) new-reference
-        ∙ rw (ne-eqb link 0 (runs .linked), run-first img (blockBytes (inverseOf b) refs values ++ rest) link (gives .from) (gives .to) runs)
+        ∙ rw (ne-eqb link 0 (runs .linked), shape, run-first img behind link (gives .from) (gives .to) runs)
 
     new-key : (t : List ℕ) → isKey image t (leadAt image (viewOf new) (1 * i)) ≡ sameBytes (textAt img (viewOf b) i) t
     new-key t =
@@ -228,11 +238,11 @@ module _ (img : List ℕ) (h : Bytes img) (a : ℕ) (b : Block) (whole : parsed 
         let order : (gives .from ≤ gives .to) × (gives .to ≤ length img) =
         (omega (arith, runs .start, runs .end, runs .long), omega (arith, runs .end, runs .within)) in
         ap (λ (k : ℕ). isKey image t (leadAt image (viewOf new) k)) one ∙ ap (isKey image t) new-lead
-        ∙ ap (λ (x : List ℕ). sameBytes x t) (bytes-first img (blockBytes (inverseOf b) refs values ++ rest) (gives .from) (gives .to) (order .0) (order .1) ∙ sym text-is)
+        ∙ ap (λ (x : List ℕ). sameBytes x t) (ap (λ (x : List ℕ). textBytes x (gives .from) (gives .to)) shape ∙ bytes-first img behind (gives .from) (gives .to) (order .0) (order .1) ∙ sym text-is)
 
     not-nested : leadsIn image link ≡ false
     unfolding leadsIn
-    not-nested = rw (no-conversion img (blockBytes (inverseOf b) refs values ++ rest) link (gives .from) (gives .to) runs) (go (eqb link 0) (inside image link))
+    not-nested = rw (ap (λ (x : List ℕ). isConversion x link) shape ∙ no-conversion img behind link (gives .from) (gives .to) runs) (go (eqb link 0) (inside image link))
       where
         go : (x y : Bool) → cond x false (cond y false false) ≡ false
         go true y = refl
@@ -252,7 +262,7 @@ module _ (img : List ℕ) (h : Bytes img) (a : ℕ) (b : Block) (whole : parsed 
   leads-nowhere i r e = go (ltb i n) refl
     where
       read : wordIn img (b .firstref) n i ≡ Bits r
-      read = sym (reference-is i) ∙ references-read image (length img) new parses i ∙ e
+      read = sym (reference-is i) ∙ references-read image place new parses i ∙ e
 
       go : (x : Bool) → ltb i n ≡ x → leadsIn image r ≡ false
       go true t =
@@ -265,35 +275,35 @@ module _ (img : List ℕ) (h : Bytes img) (a : ℕ) (b : Block) (whole : parsed 
           let none : Bits r ≡ NoWord = sym read ∙ word-past-count img (b .firstref) n i (ltb-false i n t) in
           clash cc
 
-  new-same : new ≡ blockAt image (length img)
-  new-same = parsed-whole image (length img) new parses .same
+  new-same : new ≡ blockAt image place
+  new-same = parsed-whole image place new parses .same
 
-  alone : (d : ℕ) → Each (Sound d image) (leadsIn image) (references image (blockAt image (length img)))
-      × (sizes (size d image) (leadsIn image) (references image (blockAt image (length img))) ≡ 0)
+  alone : (d : ℕ) → Each (Sound d image) (leadsIn image) (references image (blockAt image place))
+      × (sizes (size d image) (leadsIn image) (references image (blockAt image place)) ≡ 0)
   alone d =
       subst (λ (x : Block). Each (Sound d image) (leadsIn image) (references image x) × (sizes (size d image) (leadsIn image) (references image x) ≡ 0)) new-same
       (none-nested image (Sound d image) (size d image) (references image new) leads-nowhere)
 
-  new-opens : opened image (length img) ≡ Whole (blockAt image (length img))
-  new-opens = opened-whole image (length img) (parsed-whole image (length img) new parses .fits)
+  new-opens : opened image place ≡ Whole (blockAt image place)
+  new-opens = opened-whole image place (parsed-whole image place new parses .fits)
 
-  tree-sound : Sound 21 image (length img)
+  tree-sound : Sound 21 image place
   unfolding Sound
   tree-sound =
-      let links : 4 ≤ blockAt image (length img) .links = subst (λ (x : Block). 4 ≤ x .links) new-same (parsed-is-read image (length img) new parses .1) in
+      let links : 4 ≤ blockAt image place .links = subst (λ (x : Block). 4 ≤ x .links) new-same (parsed-is-read image place new parses .1) in
       (links, new-opens, alone 20 .0)
 
-  tree-size : size 21 image (length img) ≡ 1
+  tree-size : size 21 image place ≡ 1
   unfolding size
   tree-size = omega (arith, alone 20 .1)
 
-  pub new-accepted : (l : ℕ) → 1 ≤ l → checked image (length img) l ≡ Accepted 1
+  pub new-accepted : (l : ℕ) → 1 ≤ l → checked image place l ≡ Accepted 1
   new-accepted l h =
-      let w = parsed-whole image (length img) new parses in
-      accepted-when image (length img) l (w .header) (w .conversion) tree-sound (omega (arith, tree-size, h)) ∙ ap Accepted tree-size
+      let w = parsed-whole image place new parses in
+      accepted-when image place l (w .header) (w .conversion) tree-sound (omega (arith, tree-size, h)) ∙ ap Accepted tree-size
 
   -- ---- applying
-  seen-new : seen image (length img) ≡ Open (viewOf new)
+  seen-new : seen image place ≡ Open (viewOf new)
   unfolding seen
   seen-new = ap seenOf (new-opens ∙ ap Whole (sym new-same))
 
@@ -306,17 +316,17 @@ module _ (img : List ℕ) (h : Bytes img) (a : ℕ) (b : Block) (whole : parsed 
   kind-new = refl
 
   applied-new : (d : ℕ) (mode : Mode) (t : List ℕ) (p : Number) → valueIn image (viewOf new) (valueKey image (viewOf new) t) ≡ p
-      → applied (suc d) mode image t (length img) given.Text ≡ record { says = spoken p; begun = length img ∷ []; malformed = false }
+      → applied (suc d) mode image t place given.Text ≡ record { says = spoken p; begun = place ∷ []; malformed = false }
   unfolding applied stepOf
   applied-new d mode t p e =
-      ap (λ (s : Seen). begin (length img) (ruled (applied d mode image t) image given.Text (unlessCut mode image t given.Text s))) seen-new
-      ∙ ap (λ (k : ConversionType). begin (length img) (ruled (applied d mode image t) image given.Text (typed mode image t (viewOf new) given.Text k))) kind-new
-      ∙ ap (λ (q : Number). record { says = spoken q; begun = length img ∷ []; malformed = false }) e
+      ap (λ (s : Seen). begin place (ruled (applied d mode image t) image given.Text (unlessCut mode image t given.Text s))) seen-new
+      ∙ ap (λ (k : ConversionType). begin place (ruled (applied d mode image t) image given.Text (typed mode image t (viewOf new) given.Text k))) kind-new
+      ∙ ap (λ (q : Number). record { says = spoken q; begun = place ∷ []; malformed = false }) e
 
   answered : (mode : Mode) (l : ℕ) → 1 ≤ l → (t o : List ℕ) (p : Number) → valueIn image (viewOf new) (valueKey image (viewOf new) t) ≡ p
-      → applying mode image (length img) l given.Text t o ≡ settled 1 (length img) (record { says = spoken p; begun = length img ∷ []; malformed = false }) o
+      → applying mode image place l given.Text t o ≡ settled 1 place (record { says = spoken p; begun = place ∷ []; malformed = false }) o
   answered mode l h t o p e =
-      after-check mode image (length img) l 1 given.Text t o (new-accepted l h) ∙ ap (λ (x : Ap). settled 1 (length img) x o) (applied-new 20 mode t p e)
+      after-check mode image place l 1 given.Text t o (new-accepted l h) ∙ ap (λ (x : Ap). settled 1 place x o) (applied-new 20 mode t p e)
 
   -- the references of the new block are as many as there are keys, so the search goes through the keys
   key-found : (t : List ℕ) → valueKey image (viewOf new) t ≡ firstOf (λ j. isKey image t (leadAt image (viewOf new) (1 * j))) 0 n
@@ -327,7 +337,7 @@ module _ (img : List ℕ) (h : Bytes img) (a : ℕ) (b : Block) (whole : parsed 
 
   -- the text of a key gives that key
   pub key-restored : (i : ℕ) → i < b .valcount → (mode : Mode) (l : ℕ) → 1 ≤ l → (o : List ℕ)
-      → applying mode (img ++ (blockBytes (inverseOf b) (words img (b .firstref) (b .valcount)) (words img (b .firstval) (b .valcount)) ++ rest)) (length img) l given.Text (textAt img (viewOf b) i) o
+      → applying mode ((img ++ gap) ++ (blockBytes (inverseOf b) (words img (b .firstref) (b .valcount)) (words img (b .firstval) (b .valcount)) ++ rest)) (length (img ++ gap)) l given.Text (textAt img (viewOf b) i) o
       ≡ once (answer.Number (keyAt img (viewOf b) i)) o
   unfolding settled answerIn outputAfter
   key-restored i less mode l h o =
@@ -346,7 +356,7 @@ module _ (img : List ℕ) (h : Bytes img) (a : ℕ) (b : Block) (whole : parsed 
 
   -- a text that is no key's is unknown: there is no default
   pub other-unknown : (t : List ℕ) → ((j : ℕ) → j < b .valcount → textAt img (viewOf b) j ≡ t → ⊥) → (mode : Mode) (l : ℕ) → 1 ≤ l → (o : List ℕ)
-      → applying mode (img ++ (blockBytes (inverseOf b) (words img (b .firstref) (b .valcount)) (words img (b .firstval) (b .valcount)) ++ rest)) (length img) l given.Text t o
+      → applying mode ((img ++ gap) ++ (blockBytes (inverseOf b) (words img (b .firstref) (b .valcount)) (words img (b .firstval) (b .valcount)) ++ rest)) (length (img ++ gap)) l given.Text t o
       ≡ once answer.Unknown o
   unfolding settled answerIn outputAfter
   other-unknown t none mode l h o =

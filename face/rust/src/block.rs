@@ -1,4 +1,4 @@
-//! One ##CC block, parsed and written.
+//! One ##CC block, parsed, written and inverted.
 use crate::raw;
 use crate::refusal::Refusal;
 use crate::types::ConversionType;
@@ -289,6 +289,51 @@ impl ConversionBlock {
         match written.refusal {
             0 => Ok(written.length as usize),
             number => Err(Refusal::of_writing(number)),
+        }
+    }
+
+    /// Builds the text to value block (type 9) that matches the value to text block (type 7) at `address`: it turns the text of a key back into the
+    /// key. Answers how many bytes it wrote, which for n keys are 64 + 16 * n.
+    ///
+    /// The keys of the old block are its values, in order; the text of a key is that of the reference with the key's index. The new block has the old
+    /// block's name, unit and comment links, no inverse link, and a reference for each key, which is the old one; the old block's precision and flags,
+    /// the number of keys as reference count field and as value count, no range and no padding, and as values the 64 bits of each key. A default text of
+    /// the old block is not taken over. Afterwards the block stands in `out` from byte 0 on and the bytes behind it are as they were. After a refusal all
+    /// of `out` is as it was.
+    ///
+    /// Set behind the end of the image, and applied there with a limit of 1 or more, the new block gives for the text of a key that key, all its 64
+    /// bits; for any other text it gives [`Answer::Unknown`](crate::Answer::Unknown).
+    ///
+    /// # Errors
+    ///
+    /// Those of [`parse`](Self::parse), then 15 [`Refusal::WrongType`]. Then key by key 14 [`Refusal::Key`] where it is a NaN, else 12
+    /// [`Refusal::NotText`] where it has no reference, or its reference is 0, leads to no ##TX that lies whole in the image, or to an empty text, else 13
+    /// [`Refusal::Repeated`] where an earlier key is equal to it, as 0 and -0 are, or has an equal text. And last 8 [`Refusal::Room`].
+    ///
+    /// ```
+    /// use mdf_conversion::{apply, Answer, ConversionBlock, Refusal, Value};
+    ///
+    /// // Gear, a value to text, stands at 1664. It says Low for 2.
+    /// let mut image = std::fs::read("../../samples/tractor.mdf").unwrap();
+    /// let mut out = [0; 80];
+    /// assert_eq!(ConversionBlock::invert(&image, 1664, &mut out), Ok(80));
+    /// let back = image.len() as u64;
+    /// image.extend(out);
+    /// assert_eq!(apply(&image, back, 1, Value::Text(b"Low"), &mut [])?.answer, Answer::Number(2.0));
+    /// assert_eq!(apply(&image, back, 1, Value::Text(b"High"), &mut [])?.answer, Answer::Unknown);
+    ///
+    /// // It has one key. Torque, at 528, is linear; Seat switch, at 3424, has a conversion in place of its text.
+    /// assert_eq!(ConversionBlock::invert(&image, 1664, &mut out[..79]), Err(Refusal::Room(None)));
+    /// assert_eq!(ConversionBlock::invert(&image, 528, &mut out), Err(Refusal::WrongType(528)));
+    /// assert_eq!(ConversionBlock::invert(&image, 3424, &mut out), Err(Refusal::NotText(0)));
+    /// # Ok::<(), Refusal>(())
+    /// ```
+    pub fn invert(image: &[u8], address: u64, out: &mut [u8]) -> Result<usize, Refusal> {
+        // SAFETY: each pointer and length are those of one slice, and `out`, which is lent for writing, shares no byte with the image.
+        let inverted = unsafe { raw::mdf_invert(image.as_ptr(), image.len(), address, out.as_mut_ptr(), out.len()) };
+        match inverted.refusal {
+            0 => Ok(inverted.length as usize),
+            number => Err(Refusal::of_inverting(number, inverted.index, inverted.address)),
         }
     }
 

@@ -1,4 +1,5 @@
-//! MDF 4 conversion blocks (##CC): checked, applied to values, parsed and written; text blocks (##TX and ##MD): read and written.
+//! MDF 4 conversion blocks (##CC): checked, applied to values, parsed and written, and value to text turned into text to value; text blocks (##TX and
+//! ##MD): read and written.
 //!
 //! Every call works on an image that is lent to it: the bytes of an MDF 4 file, or any bytes at all. An address is a place in the image, counted
 //! from 0. No image, address, value or length makes a call misbehave or run on: a call answers, or it refuses with a number ([`Refusal`]).
@@ -28,6 +29,8 @@
 //!
 //! [`TextBlock`] reads and writes the texts that links lead to, such as the name of a conversion.
 //!
+//! [`ConversionBlock::invert`] builds from a value to text the conversion that turns a text back into its value.
+//!
 //! A call computes in the float environment that a program starts with: results round to nearest, and no subnormal number is flushed to zero. In a
 //! program that has changed it, an answer can be another.
 //!
@@ -39,7 +42,9 @@
 //! text is that is not needed plays no part, nor how many references lead to it. A reference that is the same as the last nested one of its block is
 //! counted by the check and not walked again. [`ConversionBlock::parse`] and [`parse_kept`](ConversionBlock::parse_kept) take a constant, however
 //! large the block and its excess; [`write`](ConversionBlock::write) takes what it writes. [`TextBlock::read`] looks once at each byte of the text,
-//! up to its first zero byte, and [`TextBlock::write`] takes the text's bytes twice, and what it writes.
+//! up to its first zero byte, and [`TextBlock::write`] takes the text's bytes twice, and what it writes. [`ConversionBlock::invert`] of n keys takes at
+//! most n * n / 2 comparisons of keys and as many short steps for the texts; for each 255 keys it runs through each text at most once; and it writes 16
+//! bytes a key. There are at most 65,535 keys, and it never takes n * n times the length of a text, however alike the texts are.
 //!
 //! So the limit and the length of `out` are the caller's brake. Choose a limit well above the nested blocks that one conversion is expected to have:
 //! 4096 is generous. Choose `out` as long as the longest text that can be shown: a longer one is [`Refusal::Room`] at no more cost. A call takes at

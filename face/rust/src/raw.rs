@@ -85,6 +85,14 @@ pub struct Text {
     pub length: u64,
 }
 
+#[repr(C)]
+pub struct Inverted {
+    pub refusal: u32,
+    pub index: u32,
+    pub address: u64,
+    pub length: u64,
+}
+
 extern "C" {
     pub fn mdf_check(image: *const u8, image_len: usize, address: u64, limit: u32) -> Checked;
     pub fn mdf_apply_unsigned(image: *const u8, image_len: usize, address: u64, limit: u32, value: u64, out: *mut u8, out_len: usize) -> Applied;
@@ -151,6 +159,7 @@ extern "C" {
     pub fn mdf_write(block: Block, refs: *const u64, refs_len: usize, words: *const u64, words_len: usize, out: *mut u8, out_len: usize) -> Written;
     pub fn mdf_text_read(image: *const u8, image_len: usize, address: u64) -> Text;
     pub fn mdf_text_write(metadata: bool, text: *const u8, text_len: usize, out: *mut u8, out_len: usize) -> Written;
+    pub fn mdf_invert(image: *const u8, image_len: usize, address: u64, out: *mut u8, out_len: usize) -> Inverted;
 }
 
 #[cfg(test)]

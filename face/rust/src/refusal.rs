@@ -22,11 +22,11 @@ pub struct Stopped {
 
 /// Why a call refused. A call that refuses leaves its output buffer as it was.
 ///
-/// 1 to 6, 18 and 22 carry the address of the block or link. 7, and 8 where it comes from applying, carry the visits of both walks, and whether a
-/// malformed table was consulted.
+/// 1 to 6, 15, 18 and 22 carry the address of the block or link, 12 to 14 the index of a key, the first of which is 0. 7, and 8 where it comes from
+/// applying, carry the visits of both walks, and whether a malformed table was consulted.
 ///
 /// ```
-/// use mdf_conversion::{apply, Refusal, Value, Visits};
+/// use mdf_conversion::{apply, ConversionBlock, Refusal, Value, Visits};
 ///
 /// let image = std::fs::read("../../samples/tractor.mdf").unwrap();
 ///
@@ -41,6 +41,11 @@ pub struct Stopped {
 /// let refusal = apply(&image, 3424, 4096, Value::UnsignedInteger(1), &mut []).unwrap_err();
 /// assert_eq!(refusal, Refusal::Loop(3424));
 /// assert_eq!(refusal.to_string(), "refused 6 Loop at 3424");
+///
+/// // A key whose reference leads to no text.
+/// let refusal = ConversionBlock::invert(&image, 3424, &mut []).unwrap_err();
+/// assert_eq!((refusal, refusal.index()), (Refusal::NotText(0), Some(0)));
+/// assert_eq!(refusal.to_string(), "refused 12 NotText at key 0");
 /// ```
 #[derive(Clone, Copy, Debug, PartialEq, Eq, Hash)]
 #[non_exhaustive]
@@ -66,6 +71,14 @@ pub enum Refusal {
     Count,
     /// 11: the width of a [`Mode`](crate::Mode) is 0 or above 64.
     Width,
+    /// 12: a key to [`invert`](crate::ConversionBlock::invert) has no reference, or one that leads to no text or to an empty one.
+    NotText(u32),
+    /// 13: a key to [`invert`](crate::ConversionBlock::invert), or its text, is equal to an earlier one. As keys, 0 and -0 are equal.
+    Repeated(u32),
+    /// 14: a key to [`invert`](crate::ConversionBlock::invert) is a NaN.
+    Key(u32),
+    /// 15: the block to [`invert`](crate::ConversionBlock::invert) is no value to text (type 7).
+    WrongType(u64),
     /// 16: the number of an [`Edition`](crate::Edition) is neither 410 nor 420.
     Edition,
     /// 18: a ##CC block whose link count is below 4. The program `repair_block` writes it with 4.
@@ -93,6 +106,10 @@ impl Refusal {
             Refusal::Room(_) => 8,
             Refusal::Count => 9,
             Refusal::Width => 11,
+            Refusal::NotText(_) => 12,
+            Refusal::Repeated(_) => 13,
+            Refusal::Key(_) => 14,
+            Refusal::WrongType(_) => 15,
             Refusal::Edition => 16,
             Refusal::FewLinks(_) => 18,
             Refusal::ZeroByte => 21,
@@ -115,6 +132,10 @@ impl Refusal {
             Refusal::Room(_) => "Room",
             Refusal::Count => "Count",
             Refusal::Width => "Width",
+            Refusal::NotText(_) => "NotText",
+            Refusal::Repeated(_) => "Repeated",
+            Refusal::Key(_) => "Key",
+            Refusal::WrongType(_) => "WrongType",
             Refusal::Edition => "Edition",
             Refusal::FewLinks(_) => "FewLinks",
             Refusal::ZeroByte => "ZeroByte",
@@ -123,7 +144,7 @@ impl Refusal {
         }
     }
 
-    /// The address of the block or link, for 1 to 6, 18 and 22.
+    /// The address of the block or link, for 1 to 6, 15, 18 and 22.
     #[must_use]
     pub fn address(&self) -> Option<u64> {
         match *self {
@@ -133,11 +154,22 @@ impl Refusal {
             | Refusal::Short(address)
             | Refusal::Deep(address)
             | Refusal::Loop(address)
+            | Refusal::WrongType(address)
             | Refusal::FewLinks(address)
             | Refusal::NotTextBlock(address) => Some(address),
+            Refusal::NotText(_) | Refusal::Repeated(_) | Refusal::Key(_) => None,
             Refusal::Formula(_) | Refusal::Room(_) | Refusal::Count | Refusal::Width | Refusal::Edition | Refusal::ZeroByte | Refusal::Padding => {
                 None
             }
+        }
+    }
+
+    /// The index of the key, for 12 to 14. The first key has index 0.
+    #[must_use]
+    pub fn index(&self) -> Option<u32> {
+        match *self {
+            Refusal::NotText(index) | Refusal::Repeated(index) | Refusal::Key(index) => Some(index),
+            _ => None,
         }
     }
 
@@ -178,6 +210,18 @@ impl Refusal {
         }
     }
 
+    /// A refusal of inverting a block, by its number.
+    pub(crate) fn of_inverting(number: u32, index: u32, address: u64) -> Refusal {
+        match number {
+            8 => Refusal::Room(None),
+            12 => Refusal::NotText(index),
+            13 => Refusal::Repeated(index),
+            14 => Refusal::Key(index),
+            15 => Refusal::WrongType(address),
+            _ => Refusal::at(number, address),
+        }
+    }
+
     /// A refusal of writing a block or a text, by its number.
     pub(crate) fn of_writing(number: u32) -> Refusal {
         match number {
@@ -190,13 +234,14 @@ impl Refusal {
     }
 }
 
-/// Writes `refused`, the number, the name and, if there is one, the address.
+/// Writes `refused`, the number, the name and, if there is one, the address or the key's index.
 impl fmt::Display for Refusal {
     fn fmt(&self, f: &mut fmt::Formatter<'_>) -> fmt::Result {
         write!(f, "refused {} {}", self.number(), self.name())?;
-        match self.address() {
-            Some(address) => write!(f, " at {address}"),
-            None => Ok(()),
+        match (self.address(), self.index()) {
+            (Some(address), _) => write!(f, " at {address}"),
+            (None, Some(index)) => write!(f, " at key {index}"),
+            (None, None) => Ok(()),
         }
     }
 }

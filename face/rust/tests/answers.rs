@@ -104,6 +104,8 @@ fn an_answer_that_is_dropped_is_warned_of() {
     #[expect(unused_must_use)]
     ConversionBlock::parse_kept(image, 0);
     #[expect(unused_must_use)]
+    ConversionBlock::invert(image, 0, &mut []);
+    #[expect(unused_must_use)]
     TextBlock::new("E1");
     #[expect(unused_must_use)]
     TextBlock::new_empty();
@@ -125,6 +127,8 @@ fn an_answer_that_is_dropped_is_warned_of() {
     refusal.name();
     #[expect(unused_must_use)]
     refusal.address();
+    #[expect(unused_must_use)]
+    refusal.index();
     #[expect(unused_must_use)]
     refusal.visits();
     #[expect(unused_must_use)]

@@ -1,5 +1,6 @@
 //! Every line of document 01's "Cases", every refusal from 1 to 9, 11 and 18, malformed tables, widths and editions, through the safe functions. The
-//! padding of a block, and refusal 23, are those of tests/padding.rs; text blocks, and refusals 21 and 22, those of tests/texts.rs.
+//! padding of a block, and refusal 23, are those of tests/padding.rs; text blocks, and refusals 21 and 22, those of tests/texts.rs; inverting, and
+//! refusals 12 to 15, those of tests/inverse.rs.
 #[allow(dead_code)]
 mod image;
 
@@ -729,7 +730,7 @@ fn writing_refuses_room_and_count() {
 }
 
 #[test]
-fn refusals_have_number_name_address_and_visits() {
+fn refusals_have_number_name_address_index_and_visits() {
     let (seen, odd) = (stopped(3, 2), Stopped { visits: visits(3, 2), malformed: true });
     let all = [
         (Refusal::Outside(9), "refused 1 Outside at 9", None),
@@ -742,17 +743,26 @@ fn refusals_have_number_name_address_and_visits() {
         (Refusal::Room(Some(odd)), "refused 8 Room", Some(odd)),
         (Refusal::Count, "refused 9 Count", None),
         (Refusal::Width, "refused 11 Width", None),
+        (Refusal::NotText(0), "refused 12 NotText at key 0", None),
+        (Refusal::Repeated(4), "refused 13 Repeated at key 4", None),
+        (Refusal::Key(65534), "refused 14 Key at key 65534", None),
+        (Refusal::WrongType(9), "refused 15 WrongType at 9", None),
         (Refusal::Edition, "refused 16 Edition", None),
         (Refusal::FewLinks(1234), "refused 18 FewLinks at 1234", None),
         (Refusal::ZeroByte, "refused 21 ZeroByte", None),
         (Refusal::NotTextBlock(0), "refused 22 NotTextBlock at 0", None),
         (Refusal::Padding, "refused 23 Padding", None),
     ];
-    for (number, (refusal, shown, stopped)) in (1..=9).chain([11, 16, 18, 21, 22, 23]).zip(all) {
+    for (number, (refusal, shown, stopped)) in (1..=9).chain([11, 12, 13, 14, 15, 16, 18, 21, 22, 23]).zip(all) {
         assert_eq!((refusal.number(), refusal.to_string().as_str(), refusal.visits()), (number, shown, stopped.map(|s| s.visits)));
         assert_eq!(refusal.malformed(), stopped.is_some_and(|s| s.malformed));
-        assert_eq!(refusal.address().is_some(), number <= 6 || number == 18 || number == 22);
+        assert_eq!(refusal.address().is_some(), number <= 6 || [15, 18, 22].contains(&number));
+        assert_eq!(refusal.index().is_some(), (12..=14).contains(&number));
     }
+    for (refusal, name) in [(Refusal::NotText(7), "NotText"), (Refusal::Repeated(7), "Repeated"), (Refusal::Key(7), "Key")] {
+        assert_eq!((refusal.name(), refusal.index(), refusal.address()), (name, Some(7), None));
+    }
+    assert_eq!((Refusal::WrongType(1234).name(), Refusal::WrongType(1234).address()), ("WrongType", Some(1234)));
     assert_eq!((Refusal::FewLinks(1234).name(), Refusal::FewLinks(1234).address()), ("FewLinks", Some(1234)));
     assert_eq!((Refusal::NotTextBlock(1234).name(), Refusal::NotTextBlock(1234).address()), ("NotTextBlock", Some(1234)));
     assert_eq!((Refusal::Room(None).visits(), Refusal::Room(None).malformed()), (None, false));

@@ -285,7 +285,7 @@ fn help() {
         "KIND -",
         "unsigned, signed, float or text",
         "refused 5 Deep at 1234",
-        "with the address that 1 to 6 and 18 have",
+        "with the address that 1 to 6, 15 and 18 have, or the key that 12 to 14 have",
         "\n  18 FewLinks       the block has fewer than four links; the program repair_block writes it with four\n",
         "\n  checked 2 applied 2, odd range table\n  text slow\todd range table\n",
         "\n  reserved bytes: 0x04030201    the four bytes behind its id",

@@ -25,8 +25,12 @@ first-doubted-requires-2 c κs =
 
 cast-index : tie.Need-cast-index
 cast-index c =
-    let u = c .before .before .before in
-    omega (arith, first-within _ _ _ (u .first-doubted .ensures))
+    omega (
+      arith,
+      first-within _ _ _ (c .before .before .before .first-doubted .ensures),
+      first-within _ _ _ (c .before .before .first-repeat .ensures),
+      first-within _ _ _ (c .before .first-doubted2 .ensures),
+    )
 
 returns : tie.Need-returns
 returns c =

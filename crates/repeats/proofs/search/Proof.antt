@@ -6,17 +6,17 @@ use native.Mathlib.Omega.{arith}
 use lib.ListN.{length}
 use denote.Ref.{now}
 use Rattle.repeats.specs.Scan.{runText, Behind}
-use Rattle.repeats.proofs.Chunks.{held, not-held, comes-again, is-new, behind-none, behind-more}
+use Rattle.repeats.proofs.Chunks.{told, not-told, comes-again, is-new, behind-none, behind-more}
 use borrow.Author.Needs.{needs}
 use Rattle.repeats.proofs.search.Statement.{statement}
 use Rattle.repeats.proofs.search.Tie as tie
 
 abbrev Inv-loop : tie.InvT-loop
-Inv-loop image b start stop bound below shared marks agree₀ count i₀ agree i =
+Inv-loop image b start stop bound below shared marks agree₀ hashes count i₀ agree i =
     (stop ≤ i) × (i ≤ bound) × (length agree ≡ 256) × Behind image b start stop i
 
 abbrev μ-loop : tie.MeasureT-loop
-μ-loop image b start stop bound below shared marks agree₀ count i₀ agree i = bound - i
+μ-loop image b start stop bound below shared marks agree₀ hashes count i₀ agree i = bound - i
 
 sub-count : tie.Need-sub-count Inv-loop μ-loop
 sub-count c = search needs
@@ -26,31 +26,34 @@ add-count c = search needs
 
 loop-holds : tie.Need-loop-holds Inv-loop μ-loop
 loop-holds c =
-    let s = c .before .before .before .before .before .args in
+    let s = c .before .before .before .before .before .before .args in
     (omega arith, omega arith, search needs, behind-none (now (s .image)) (s .b) (s .start) (s .stop))
 
 run-at-requires : tie.Need-run-at-requires Inv-loop μ-loop
 run-at-requires c κs = search needs
 
-hold-requires : tie.Need-hold-requires Inv-loop μ-loop
-hold-requires c κs =
-    let s = c .before .before .before .before .before .before .before .before .before in
-    ((c .before .run-at .ensures .inner, omega arith, omega arith, omega arith), (search needs, s .pre .1 .1))
+is-one-of-requires : tie.Need-is-one-of-requires Inv-loop μ-loop
+is-one-of-requires c κs =
+    let s = c .before .before .before .before .before .before .before .before .before .before in
+    let hashed = s .pre .1 .1 .1 in (
+      (c .before .run-at .ensures .inner, omega arith, omega arith, omega arith),
+      (search needs, (s .pre .1 .1 .0, (hashed .0, λ k less. hashed .1 k (omega arith)))),
+    )
 
 same-length : tie.Need-same-length Inv-loop μ-loop
 same-length c = search needs
 
--- behind the call of `hold`: the start, the turn, the numbers of the chunk, and the text that is held
-abbrev begun : tie.After-hold Inv-loop μ-loop → tie.Start Inv-loop μ-loop
-begun h = h .before .before .before .before .before .before .before .before .before .before
+-- behind the call of `is_one_of`: the start, the turn, the numbers of the chunk, and the text that is held
+abbrev begun : tie.After-is-one-of Inv-loop μ-loop → tie.Start Inv-loop μ-loop
+begun h = h .before .before .before .before .before .before .before .before .before .before .before
 
-abbrev index : tie.After-hold Inv-loop μ-loop → ℕ
+abbrev index : tie.After-is-one-of Inv-loop μ-loop → ℕ
 index h = h .before .before .before .before .loop .i
 
-abbrev numbers : tie.After-hold Inv-loop μ-loop → ℕ
+abbrev numbers : tie.After-is-one-of Inv-loop μ-loop → ℕ
 numbers h = begun h .args .stop - begun h .args .start + 1
 
-abbrev text : tie.After-hold Inv-loop μ-loop → List ℕ
+abbrev text : tie.After-is-one-of Inv-loop μ-loop → List ℕ
 text h = runText (now (begun h .args .image)) (h .before .before .run-at .result)
 
 returns : tie.Need-returns Inv-loop μ-loop
@@ -66,7 +69,7 @@ returns c =
       apart = l .inv .3;
       again = λ less.
           comes-again img (s .b) (s .start) (text h) (numbers h) (index h) (h .before .before .run-at .ensures .text) (omega arith)
-          (held img (s .b) (s .start) (text h) _ (numbers h) (h .hold .result) (c .if1 .taken) (h .hold .ensures));
+          (told img (s .b) (s .start) (text h) (numbers h) (h .is-one-of .result) (c .if1 .taken) (h .is-one-of .ensures));
     }
 
 add-i : tie.Need-add-i Inv-loop μ-loop
@@ -83,12 +86,12 @@ loop-again c =
     let img = now (s .image) in
     let l = h .before .before .before .before .loop in
     let is = h .before .before .run-at .ensures .text in
-    let agreed = not-held img (s .b) (s .start) (text h) _ (numbers h) (h .hold .result) (c .if1 .left) (h .hold .ensures) in (
+    let new = not-told img (s .b) (s .start) (text h) (numbers h) (h .is-one-of .result) (c .if1 .left) (h .is-one-of .ensures) in (
       omega arith,
       omega arith,
       search needs,
       behind-more img (s .b) (s .start) (s .stop) (index h) (l .inv .3)
-          (λ j low high. is-new img (s .b) (s .start) (text h) (numbers h) (index h) is (omega arith) (λ k less. agreed k less .1) j low (omega arith)),
+          (λ j low high. is-new img (s .b) (s .start) (text h) (numbers h) (index h) is (omega arith) new j low (omega arith)),
     )
 
 same-length-2 : tie.Need-same-length-2 Inv-loop μ-loop
@@ -110,7 +113,7 @@ search-spec =
     add-count
     loop-holds
     run-at-requires
-    hold-requires
+    is-one-of-requires
     same-length
     returns
     add-i

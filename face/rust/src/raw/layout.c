@@ -76,6 +76,12 @@ int main(void) {
     FIELD(mdf_text, start);
     FIELD(mdf_text, length);
     END();
+    BEGIN(mdf_inverted);
+    FIELD(mdf_inverted, refusal);
+    FIELD(mdf_inverted, index);
+    FIELD(mdf_inverted, address);
+    FIELD(mdf_inverted, length);
+    END();
     NUMBER(MDF_REFUSED_OUTSIDE);
     NUMBER(MDF_REFUSED_NOT_CONVERSION);
     NUMBER(MDF_REFUSED_LIMIT);
@@ -86,6 +92,10 @@ int main(void) {
     NUMBER(MDF_REFUSED_ROOM);
     NUMBER(MDF_REFUSED_COUNT);
     NUMBER(MDF_REFUSED_WIDTH);
+    NUMBER(MDF_REFUSED_NOT_TEXT);
+    NUMBER(MDF_REFUSED_REPEATED);
+    NUMBER(MDF_REFUSED_KEY);
+    NUMBER(MDF_REFUSED_WRONG_TYPE);
     NUMBER(MDF_REFUSED_EDITION);
     NUMBER(MDF_REFUSED_FEW_LINKS);
     NUMBER(MDF_REFUSED_ZERO_BYTE);

@@ -1,6 +1,6 @@
 //! The structs have the layout that a C compiler gives those of the header, the numbers are the header's, and the archive refuses what no safe
 //! function can ask for.
-use super::{Applied, Block, Checked, Mode, Parsed, Shown, Text, Word, Written};
+use super::{Applied, Block, Checked, Inverted, Mode, Parsed, Shown, Text, Word, Written};
 use crate::{Edition, Refusal, Stopped, TextId};
 use core::mem::{align_of, offset_of, size_of};
 use std::format;
@@ -49,6 +49,7 @@ fn structs_of_rust() -> String {
         + &line!("mdf_word", Word, refusal, found, address, word)
         + &line!("mdf_written", Written, refusal, length)
         + &line!("mdf_text", Text, refusal, id, address, start, length)
+        + &line!("mdf_inverted", Inverted, refusal, index, address, length)
 }
 
 fn numbers_of_rust() -> String {
@@ -63,6 +64,10 @@ fn numbers_of_rust() -> String {
         ("MDF_REFUSED_ROOM", Refusal::Room(None).number()),
         ("MDF_REFUSED_COUNT", Refusal::Count.number()),
         ("MDF_REFUSED_WIDTH", Refusal::Width.number()),
+        ("MDF_REFUSED_NOT_TEXT", Refusal::NotText(0).number()),
+        ("MDF_REFUSED_REPEATED", Refusal::Repeated(0).number()),
+        ("MDF_REFUSED_KEY", Refusal::Key(0).number()),
+        ("MDF_REFUSED_WRONG_TYPE", Refusal::WrongType(0).number()),
         ("MDF_REFUSED_EDITION", Refusal::Edition.number()),
         ("MDF_REFUSED_FEW_LINKS", Refusal::FewLinks(0).number()),
         ("MDF_REFUSED_ZERO_BYTE", Refusal::ZeroByte.number()),
@@ -99,6 +104,7 @@ fn layouts_and_numbers_are_those_of_the_header() {
     assert_eq!((size_of::<Mode>(), offset_of!(Mode, width), offset_of!(Mode, edition)), (8, 0, 4));
     assert_eq!((size_of::<Block>(), offset_of!(Block, excess), offset_of!(Block, reserved)), (104, 80, 88));
     assert_eq!((size_of::<Text>(), offset_of!(Text, id), offset_of!(Text, start), offset_of!(Text, length)), (32, 4, 16, 24));
+    assert_eq!((size_of::<Inverted>(), offset_of!(Inverted, index), offset_of!(Inverted, address), offset_of!(Inverted, length)), (24, 4, 8, 16));
 }
 
 const FILL: u8 = 0xa5;
@@ -182,4 +188,59 @@ fn few_links_are_refused_in_every_mode() {
             assert_eq!((kind, number.to_bits(), length, checked, applied, malformed), (0, 0, 0, 0, 0, 0));
         }
     }
+}
+
+// Every field of the answer, in the order of the struct. The archive may touch no byte outside the room that it is lent, and none where it refuses.
+fn inverted(image: &[u8], address: u64, room: usize) -> (u32, u32, u64, u64) {
+    let mut buffer = [FILL; 256];
+    // SAFETY: each pointer and length are those of one slice, and the part of the buffer shares no byte with the image.
+    let Inverted { refusal, index, address, length } =
+        unsafe { super::mdf_invert(image.as_ptr(), image.len(), address, buffer[16..].as_mut_ptr(), room) };
+    buffer[16..][..length as usize].fill(FILL);
+    assert_eq!(buffer, [FILL; 256]);
+    (refusal, index, address, length)
+}
+
+#[test]
+fn inverting_fills_the_fields_that_apply_and_no_other() {
+    let image = sample();
+    // Gear, a value to text of one key, stands at 1664.
+    assert_eq!(inverted(&image, 1664, 80), (0, 0, 0, 80));
+    assert_eq!(inverted(&image, 1664, 200), (0, 0, 0, 80));
+    for room in [0, 64, 80, 200] {
+        assert_eq!(inverted(&image, u64::MAX, room), (1, 0, u64::MAX, 0));
+        assert_eq!(inverted(&image, 64, room), (2, 0, 64, 0));
+        assert_eq!(inverted(&image, 2856, room), (4, 0, 2856, 0));
+        assert_eq!(inverted(&image, 528, room), (15, 0, 528, 0));
+        assert_eq!(inverted(&image, FEW_LINKS as u64, room), (18, 0, FEW_LINKS as u64, 0));
+        // Seat switch, a value to text whose reference leads to a conversion.
+        assert_eq!(inverted(&image, 3424, room), (12, 0, 0, 0));
+    }
+    for room in [0, 64, 79] {
+        assert_eq!(inverted(&image, 1664, room), (8, 0, 0, 0));
+    }
+}
+
+// A value to text of two keys behind the sample, with the text of Gear's key and that of the second, which stands at 1456.
+fn with_two_keys(refs: [u64; 2], keys: [f64; 2]) -> (Vec<u8>, u64) {
+    let mut image = sample();
+    let address = image.len();
+    image.resize(address + 96, 0);
+    let block = crate::ConversionBlock::new(crate::ConversionType::ValueToText);
+    assert_eq!(block.write(&refs, &keys, &mut image[address..]), Ok(96));
+    (image, address as u64)
+}
+
+#[test]
+fn inverting_names_the_index_of_a_key_and_no_address() {
+    let texts = [1424, 1456];
+    for (refs, keys, refusal) in [(texts, [1.0, f64::NAN], 14), ([1424, 0], [1.0, 2.0], 12), ([1424, 1424], [1.0, 2.0], 13), (texts, [0.0, -0.0], 13)]
+    {
+        let (image, address) = with_two_keys(refs, keys);
+        for room in [0, 95, 96, 200] {
+            assert_eq!(inverted(&image, address, room), (refusal, 1, 0, 0));
+        }
+    }
+    let (image, address) = with_two_keys(texts, [0.0, 1.0]);
+    assert_eq!((inverted(&image, address, 96), inverted(&image, address, 95)), ((0, 0, 0, 96), (8, 0, 0, 0)));
 }

@@ -12,8 +12,8 @@ enum-known-w-2 c = search needs
 number-requires : tie.Need-number-requires
 number-requires c κs = search needs
 
-cast-t7 : tie.Need-cast-t7
-cast-t7 c = search needs
+cast-refusal : tie.Need-cast-refusal
+cast-refusal c = search needs
 
 index-requires : tie.Need-index-requires
 index-requires c κs = search needs
@@ -44,7 +44,7 @@ inverted-face-spec =
     enum-known-w
     enum-known-w-2
     number-requires
-    cast-t7
+    cast-refusal
     index-requires
     address-requires
     address-or-requires

@@ -1,7 +1,9 @@
 //! What the command is asked for.
+use crate::inverting::Target;
 use crate::printing::brief;
 use mdf_conversion::{Edition, Mode, Value};
 use std::ffi::{OsStr, OsString};
+use std::os::unix::ffi::OsStrExt;
 
 const USUAL_LIMIT: u32 = 4096;
 
@@ -20,6 +22,8 @@ pub enum Task<'a> {
     ConvertOne(Value<'a>),
     /// Each line of standard input is a value.
     ConvertLines(Kind),
+    /// Build the inverse of the conversion.
+    Invert(Target<'a>),
 }
 
 pub struct Request<'a> {
@@ -54,8 +58,15 @@ pub fn read(words: &[OsString]) -> Result<Arguments<'_>, String> {
     if let (Task::Describe, Some(option)) = (&task, of_the_mode) {
         return Err(format!("{option} goes with a KIND and a VALUE"));
     }
+    let task = match (sorted.out_file, task) {
+        (None, _) if sorted.force => return Err("--force goes with --invert".into()),
+        (None, task) => task,
+        (Some(_), Task::Describe) if sorted.limit.is_some() => return Err("--limit does not go with --invert, which checks nothing".into()),
+        (Some(file), Task::Describe) => Task::Invert(Target { file, force: sorted.force }),
+        (Some(_), _) => return Err("--invert does not go with a KIND and a VALUE".into()),
+    };
     let mode = sorted.width.map_or(Mode::STANDARD, Mode::width).edition(sorted.edition.unwrap_or_default());
-    Ok(Arguments::Request(Request { image_file, address, limit: sorted.limit, mode, task }))
+    Ok(Arguments::Request(Request { image_file, address, limit: sorted.limit.unwrap_or(USUAL_LIMIT), mode, task }))
 }
 
 // VALUE among the places.
@@ -70,23 +81,27 @@ enum Sorted<'a> {
 struct Places<'a> {
     /// The arguments that are no options.
     places: Vec<&'a OsStr>,
-    limit: u32,
+    limit: Option<u32>,
     width: Option<u32>,
     edition: Option<Edition>,
+    out_file: Option<&'a OsStr>,
+    force: bool,
     /// How many of the places stand before `--`.
     before_dashes: Option<usize>,
 }
 
 fn sorted(words: &[OsString]) -> Result<Sorted<'_>, String> {
-    let mut sorted = Places { places: Vec::new(), limit: USUAL_LIMIT, width: None, edition: None, before_dashes: None };
+    let mut sorted = Places { places: Vec::new(), limit: None, width: None, edition: None, out_file: None, force: false, before_dashes: None };
     let mut words = words.iter().map(OsString::as_os_str);
     while let Some(word) = words.next() {
         match option_of(word.as_encoded_bytes()) {
             (b"--help" | b"-h", None) => return Ok(Sorted::Help),
             (b"--version", None) => return Ok(Sorted::Version),
-            (b"--limit", given) => sorted.limit = number_of("--limit", given, &mut words)?,
+            (b"--limit", given) => sorted.limit = Some(number_of("--limit", given, &mut words)?),
             (b"--width", given) => sorted.width = Some(number_of("--width", given, &mut words)?),
             (b"--edition", given) => sorted.edition = Some(edition_of(given, &mut words)?),
+            (b"--invert", given) => sorted.out_file = Some(out_file_of(given, &mut words)?),
+            (b"--force", None) => sorted.force = true,
             (b"--", None) => {
                 sorted.before_dashes = Some(sorted.places.len());
                 sorted.places.extend(words.by_ref());
@@ -154,6 +169,13 @@ fn edition_of<'a>(given: Option<&'a [u8]>, words: &mut impl Iterator<Item = &'a 
         Some(bytes) => Err(format!("--edition {} is neither 4.10 nor 4.20", brief(bytes))),
         None => Err("--edition needs 4.10 or 4.20".into()),
     }
+}
+
+// The file of an option, likewise. A next word that begins as an option does is none: it would be a file that nobody meant.
+fn out_file_of<'a>(given: Option<&'a [u8]>, words: &mut impl Iterator<Item = &'a OsStr>) -> Result<&'a OsStr, String> {
+    let next = || words.next().filter(|word| !word.as_encoded_bytes().starts_with(b"--"));
+    let file = given.map(OsStr::from_bytes).or_else(next).filter(|file| !file.is_empty());
+    file.ok_or("--invert needs an OUT-FILE".into())
 }
 
 enum NoNumber {

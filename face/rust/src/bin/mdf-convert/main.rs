@@ -2,6 +2,7 @@
 mod arguments;
 mod converting;
 mod describing;
+mod inverting;
 mod output;
 mod printing;
 mod texts;
@@ -22,6 +23,7 @@ mdf-convert: converts values by a conversion (##CC block) of an MDF 4 file
   mdf-convert IMAGE-FILE ADDRESS KIND VALUE [--limit N] [--width N] [--edition E]   converts one value
   mdf-convert IMAGE-FILE ADDRESS KIND - [--limit N] [--width N] [--edition E]       converts each line of standard input
   mdf-convert IMAGE-FILE ADDRESS [--limit N]                                        checks the conversion and shows its fields; or shows a text
+  mdf-convert IMAGE-FILE ADDRESS --invert OUT-FILE [--force]                        writes the file with the inverse of a value to text behind it
   mdf-convert --help                                                                shows this text; so does -h
   mdf-convert --version                                                             shows the version
 
@@ -35,6 +37,10 @@ mdf-convert: converts values by a conversion (##CC block) of an MDF 4 file
                number, so that -1 of a signal of 4 bits has no bit 4
   --edition E  the file's edition of MDF, 4.10 or 4.20, 4.20 if not given; also --edition=E: in 4.10 there are no bit groups, so that type 11
                leaves a value unchanged and passes nothing on
+  --invert OUT-FILE
+               builds the text to value (type 9) that matches the value to text (type 7) at ADDRESS and turns a text back into its key; writes
+               all of IMAGE-FILE to OUT-FILE and behind it, at the next multiple of 8, the new block; also --invert=OUT-FILE
+  --force      OUT-FILE is written over if it is there already; it may be IMAGE-FILE itself
   --           no option follows; a VALUE right behind it is taken as it stands, be it -h, --limit or -
 
 A line of standard input ends with a newline, or with a carriage return and a newline: neither is part of the value.
@@ -45,7 +51,7 @@ One value gives two lines: the answer, then N and M, how many blocks were checke
   text Gear = Low|PTO       a text
   unchanged                 the value stays as it is
   unknown                   the value has no counterpart
-  refused 5 Deep at 1234    the number and name of a refusal, with the address that 1 to 6 and 18 have
+  refused 5 Deep at 1234    the number and name of a refusal, with the address that 1 to 6, 15 and 18 have, or the key that 12 to 14 have
   checked 2 applied 2       the second line: N and M
 
 A range to text (type 8) that is applied to a number and has no, one or an odd number of values is malformed: its first reference decides, whatever
@@ -63,6 +69,15 @@ With the address of a text alone, a ##TX or ##MD block, the two lines are
 
   id: ##TX
   text: \"Torque\"
+
+With --invert the one line says where the new block stands in OUT-FILE, and how many keys it has:
+
+  text to value at 4400, keys 1
+
+The new block has no default: a text that is no key's is unknown. With a refusal nothing is written; of the keys, counted from 0, the first that cannot
+be turned around is named:
+
+  refused 13 Repeated at key 4
 
 A number has the fewest digits that read back the same float, and from 1e16 on and below 1e-5 an exponent: 2.305843009213694e18.
 
@@ -82,12 +97,16 @@ the direction of writing, and of what is not UTF-8, each byte is written \\xNN.
   7 Formula         applying reaches a formula with a number
   8 Room            the text has more than 268435456 bytes
   11 Width          the width is 0 or above 64; before all others
+  12 NotText        --invert: the key has no text, or an empty one
+  13 Repeated       --invert: the key or its text is equal to an earlier one; 0 and -0 are equal
+  14 Key            --invert: the key is a NaN
+  15 WrongType      --invert: the conversion is no value to text
   18 FewLinks       the block has fewer than four links; the program repair_block writes it with four
 
 Exit status
   0  answered
   1  the answer cannot be written: standard output is closed, full or no longer read
-  2  a bad argument, a file that cannot be read or is no regular file, or a line of standard input that is no value
+  2  a bad argument, a file that cannot be read or written, is no regular file or is there already, or a line of standard input that is no value
   3  refused; of many values, at least one
 
 With 1 and 2 one line on standard error says why. With 3, where the refusal is 18, one line there names the program that repairs the block.
@@ -143,11 +162,12 @@ fn in_words(kind: FileType) -> &'static str {
 // Answers the first refusal, if there is one.
 fn carry_out(request: Request<'_>, out: &mut impl Write) -> Result<Option<Refusal>, Stop> {
     let image = image_of(request.image_file)?;
-    let converter = Converter::new(&image, request.address, request.limit, request.mode);
+    let converter = || Converter::new(&image, request.address, request.limit, request.mode);
     match request.task {
         Task::Describe => describing::describe(&image, request.address, request.limit, out),
-        Task::ConvertOne(value) => converter.convert_one(value, out),
-        Task::ConvertLines(kind) => converter.convert_lines(kind, io::stdin(), out),
+        Task::ConvertOne(value) => converter().convert_one(value, out),
+        Task::ConvertLines(kind) => converter().convert_lines(kind, io::stdin(), out),
+        Task::Invert(target) => inverting::invert(image, request.address, &target, out),
     }
 }
 
