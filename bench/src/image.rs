@@ -27,19 +27,24 @@ impl Image {
 
     /// A text block, filled up with zeros to a multiple of 8. Answers its address.
     pub fn text(&mut self, text: &str) -> u64 {
+        self.text_bytes(text.as_bytes())
+    }
+
+    /// The same of any bytes.
+    pub fn text_bytes(&mut self, text: &[u8]) -> u64 {
         self.text_of(text, (text.len() + 8) / 8 * 8)
     }
 
     /// A text block without a zero byte. Answers its address.
     pub fn unended(&mut self, text: &str) -> u64 {
-        self.text_of(text, text.len())
+        self.text_of(text.as_bytes(), text.len())
     }
 
     /// A text block with so many bytes behind its header.
-    fn text_of(&mut self, text: &str, size: usize) -> u64 {
+    fn text_of(&mut self, text: &[u8], size: usize) -> u64 {
         let at = self.end();
         self.header(b"##TX", 24 + size, 0);
-        self.bytes.extend_from_slice(text.as_bytes());
+        self.bytes.extend_from_slice(text);
         self.bytes.resize(at as usize + 24 + size, 0);
         at
     }

@@ -92,7 +92,16 @@ pub struct Text {
     pub length: u64,
 }
 
+#[repr(C)]
+pub struct Inverted {
+    pub refusal: u32,
+    pub index: u32,
+    pub address: u64,
+    pub length: u64,
+}
+
 extern "C" {
+    pub fn mdf_invert(image: *const u8, image_len: usize, address: u64, out: *mut u8, out_len: usize) -> Inverted;
     pub fn mdf_text_read(image: *const u8, image_len: usize, address: u64) -> Text;
     pub fn mdf_text_write(metadata: bool, text: *const u8, text_len: usize, out: *mut u8, out_len: usize) -> Written;
     pub fn mdf_parse(image: *const u8, image_len: usize, address: u64) -> Parsed;

@@ -1,7 +1,7 @@
 // The work of a call is bounded: with S the bytes of the image, Q those of a text value, R the room, and r the root's references, it is at most a
 // constant times S + Q + r * (Q + 1), and for each visit of the check the bytes of the visited block and R more. The length of a text that is not
-// needed plays no part. So the time is bounded too. It is taken on hostile images only, where a call that reads each text to its end needs many
-// times as much as it may.
+// needed plays no part. That of an inversion of n keys is at most a constant times n * n, and the bytes of all their texts for each 255 keys. So the
+// time is bounded too. It is taken on hostile images only, where a call that reads each text to its end needs many times as much as it may.
 use crate::judge::{Difference, Verdict};
 use crate::scene::{Ask, Scene};
 use crate::second::RIGHT;
@@ -110,7 +110,19 @@ pub fn within(side: &dyn Side, scene: &Scene, tally: &mut Tally) -> Verdict {
         timed("a text block read", image.len() as u64, tally, || side.read_text(image, place))?;
     }
     let (text, mut out) = (&scene.texts.text, vec![0; scene.texts.room]);
-    timed("a text block written", (text.len() + out.len()) as u64, tally, || side.write_text(scene.texts.metadata, text, &mut out))
+    timed("a text block written", (text.len() + out.len()) as u64, tally, || side.write_text(scene.texts.metadata, text, &mut out))?;
+    let v = &scene.inversion;
+    let mut out = vec![0; v.room];
+    timed("an inversion", inversion_units(&v.image, v.address), tally, || side.invert(&v.image, v.address, &mut out))
+}
+
+/// The units of an inversion: with n keys n * n, and for each 255 of them the bytes of all their texts.
+fn inversion_units(image: &[u8], address: u64) -> u64 {
+    let Some(found) = RIGHT.opened(image, address) else { return 0 };
+    let keys = RIGHT.keys_of(image, &found);
+    let texts: usize = keys.iter().filter_map(|key| key.text).map(|text| text.len() + 1).sum();
+    let n = keys.len();
+    (n * n + n.div_ceil(255) * texts + 16 * n) as u64
 }
 
 fn text_class(bytes: u64) -> &'static str {

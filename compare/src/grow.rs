@@ -364,32 +364,10 @@ impl Grower<'_> {
             zeros: 0,
         };
         if self.r.chance(20) {
-            c.zeros = self.zeros(&c);
+            c.zeros = zeros(self.r, c.range.is_some());
         }
-        c.length = self.length(&c);
+        c.length = length(self.r, &c);
         self.add(Node::Conversion(c))
-    }
-
-    /// Zero bytes behind the values. Without a range mostly so few that they are not read as one.
-    fn zeros(&mut self, c: &Conversion) -> usize {
-        match c.range {
-            None if self.r.chance(90) => self.r.pick(&[1, 7, 8, 8, 15]),
-            _ => self.r.pick(&[1, 7, 8, 15, 16, 17, 24, 40]),
-        }
-    }
-
-    /// A block length that says whether there is a range: mostly exact, sometimes at the edge or far off.
-    fn length(&mut self, c: &Conversion) -> u64 {
-        let (size, edge) = (c.size() as u64, c.range_from());
-        if c.zeros > 0 {
-            return size + c.zeros as u64;
-        }
-        let far = self.r.below(edge as usize) as u64;
-        let lengths = match c.range {
-            Some(_) => [size, size, edge, edge + 8, u64::MAX, edge + far],
-            None => [size, size, edge - 1, 0, 24, far],
-        };
-        self.r.pick(&lengths)
     }
 
     /// Blocks in a row, each handing the value on to the next, or only naming it.
@@ -470,4 +448,26 @@ impl Grower<'_> {
         let refs = refs.collect();
         self.block(Body { kind, values, refs })
     }
+}
+
+/// Zero bytes behind the values. Without a range mostly so few that they are not read as one.
+pub fn zeros(r: &mut Random, ranged: bool) -> usize {
+    match ranged {
+        false if r.chance(90) => r.pick(&[1, 7, 8, 8, 15]),
+        _ => r.pick(&[1, 7, 8, 15, 16, 17, 24, 40]),
+    }
+}
+
+/// A block length that says whether there is a range: mostly exact, sometimes at the edge or far off.
+pub fn length(r: &mut Random, c: &Conversion) -> u64 {
+    let (size, edge) = (c.size() as u64, c.range_from());
+    if c.zeros > 0 {
+        return size + c.zeros as u64;
+    }
+    let far = r.below(edge as usize) as u64;
+    let lengths = match c.range {
+        Some(_) => [size, size, edge, edge + 8, u64::MAX, edge + far],
+        None => [size, size, edge - 1, 0, 24, far],
+    };
+    r.pick(&lengths)
 }

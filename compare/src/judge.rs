@@ -1,6 +1,7 @@
 // Two comparisons of a scene: of a side with the crate, in the domain, and of two sides with each other, everywhere.
 use crate::bound::tree_of;
 use crate::domain::{self, Place};
+use crate::inverse::{inverses_alike, inverses_like};
 use crate::padding::{kept_alike, kept_like, parsed_back};
 use crate::scene::{Ask, Fields, Scene};
 use crate::second::{Second, RIGHT};
@@ -53,6 +54,7 @@ pub fn with_crate(side: &dyn Side, scene: &Scene, tally: &mut Tally) -> Verdict 
     written_fields(side, &scene.fields, tally)?;
     written_fields(side, &scene.padded, tally)?;
     texts_like(side, scene, tally)?;
+    inverses_like(side, scene, tally)?;
     if (scene.address as u128 + 24) > scene.image.len() as u128 || has_huge_links(&scene.image) {
         return Ok(());
     }
@@ -319,6 +321,7 @@ pub fn with_side(a: &dyn Side, b: &dyn Side, scene: &Scene, tally: &mut Tally) -
     fields_alike(a, b, &scene.fields, tally)?;
     fields_alike(a, b, &scene.padded, tally)?;
     texts_alike(a, b, scene, tally)?;
+    inverses_alike(a, b, scene, tally)?;
     for ask in &scene.asks {
         let (mut out_a, mut out_b) = (output(ask.room), output(ask.room));
         let ours = a.apply(image, address, limit, ask.value, &ask.text, &mut out_a);

@@ -1,6 +1,6 @@
 // Lent buffers with a guard around them. A buffer stands at the edge of its pages: past the edge no access is allowed, so that a read or
 // a write there stops the program; on its other side stand guard bytes that are looked at after each call.
-use crate::side::{Applied, Block, Checked, Mode, Parsed, Shown, Side, Text, Value, Written};
+use crate::side::{Applied, Block, Checked, Inverted, Mode, Parsed, Shown, Side, Text, Value, Written};
 use std::cell::{Cell, RefCell};
 
 extern "C" {
@@ -81,7 +81,7 @@ pub struct Guarded<S> {
 }
 
 pub const LARGEST_IMAGE: usize = 1 << 20;
-const LARGEST_TEXT: usize = 1 << 12;
+pub const LARGEST_TEXT: usize = 1 << 12;
 const MOST_WORDS: usize = 1 << 17;
 
 impl<S: Side> Guarded<S> {
@@ -199,6 +199,16 @@ impl<S: Side> Side for Guarded<S> {
         let answer = self.side.write_text(metadata, lent_text, lent_out);
         self.look(&self.text, text, lent_text, back, "write_text: the text or its guard has changed");
         self.expect(self.out.guard_stands(out.len(), back), "write_text: the guard of the output has changed");
+        out.copy_from_slice(lent_out);
+        answer
+    }
+
+    fn invert(&self, image: &[u8], address: u64, out: &mut [u8]) -> Inverted {
+        let back = self.turn();
+        let (lent, lent_out) = (self.image.lend(image, back), self.out.lend(out, back));
+        let answer = self.side.invert(lent, address, lent_out);
+        self.look(&self.image, image, lent, back, "invert: the image or its guard has changed");
+        self.expect(self.out.guard_stands(out.len(), back), "invert: the guard of the output has changed");
         out.copy_from_slice(lent_out);
         answer
     }

@@ -42,6 +42,14 @@ pub fn word(r: &mut Random) -> u64 {
     }
 }
 
+/// The 64 bits of a NaN: quiet or signalling, of either sign.
+pub fn nan(r: &mut Random) -> u64 {
+    if r.chance(60) {
+        return r.pick(NANS);
+    }
+    r.pick(&[0x7ff0_0000_0000_0000, 0xfff0_0000_0000_0000]) | (1 << r.below(52)) | (r.next() >> 12 >> r.below(52))
+}
+
 /// A number with all its 53 bits in use and a moderate exponent, so that each rounding shows.
 pub fn fraction(r: &mut Random) -> f64 {
     let m = (r.next() >> 11) as f64 / (1u64 << 53) as f64;

@@ -1,5 +1,5 @@
 // The proved build, through its C face. A slice goes over as its pointer and its length.
-use crate::side::{Applied, Block, Checked, Mode, Parsed, Shown, Side, Text, Value, Written};
+use crate::side::{Applied, Block, Checked, Inverted, Mode, Parsed, Shown, Side, Text, Value, Written};
 
 type Bytes = *const u8;
 
@@ -67,6 +67,7 @@ extern "C" {
     fn mdf_write(block: Block, refs: *const u64, refs_len: usize, words: *const u64, words_len: usize, out: *mut u8, out_len: usize) -> Written;
     fn mdf_text_read(image: Bytes, image_len: usize, address: u64) -> Text;
     fn mdf_text_write(metadata: bool, text: Bytes, text_len: usize, out: *mut u8, out_len: usize) -> Written;
+    fn mdf_invert(image: Bytes, image_len: usize, address: u64, out: *mut u8, out_len: usize) -> Inverted;
 }
 
 pub struct Ours;
@@ -124,5 +125,9 @@ impl Side for Ours {
 
     fn write_text(&self, metadata: bool, text: &[u8], out: &mut [u8]) -> Written {
         unsafe { mdf_text_write(metadata, text.as_ptr(), text.len(), out.as_mut_ptr(), out.len()) }
+    }
+
+    fn invert(&self, image: &[u8], address: u64, out: &mut [u8]) -> Inverted {
+        unsafe { mdf_invert(image.as_ptr(), image.len(), address, out.as_mut_ptr(), out.len()) }
     }
 }

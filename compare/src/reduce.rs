@@ -6,8 +6,8 @@ type Seen<'a> = &'a dyn Fn(&Scene) -> Option<Difference>;
 type Shows<'a> = &'a dyn Fn(&Scene) -> bool;
 type Part = fn(&mut Scene) -> &mut Vec<u8>;
 
-/// What is made shorter and emptier: the image, the text to write, and the image with one text block.
-const PARTS: [Part; 3] = [|s| &mut s.image, |s| &mut s.texts.text, |s| &mut s.texts.image];
+/// What is made shorter and emptier: the image, the text to write, the image with one text block, and the one with a block to invert.
+const PARTS: [Part; 4] = [|s| &mut s.image, |s| &mut s.texts.text, |s| &mut s.texts.image, |s| &mut s.inversion.image];
 
 /// The smallest scene found that still shows the difference.
 fn reduced(scene: Scene, seen: Seen) -> Scene {
@@ -35,7 +35,7 @@ fn reduced(scene: Scene, seen: Seen) -> Scene {
 }
 
 /// Of each part its length, and how many of its bytes are not zero.
-fn weights(scene: &mut Scene) -> [(usize, usize); 3] {
+fn weights(scene: &mut Scene) -> [(usize, usize); 4] {
     PARTS.map(|part| {
         let bytes = part(scene);
         (bytes.len(), bytes.iter().filter(|&&b| b != 0).count())
@@ -94,6 +94,9 @@ pub fn tell_smallest(scene: Scene, seen: Seen) {
     if difference.what.contains("text block") {
         return tell_texts(&small);
     }
+    if difference.what.contains("inverse") {
+        return tell_inversion(&small);
+    }
     if difference.what.contains("block") || difference.what.contains("fields") {
         tell_fields("fields", &small.fields);
         tell_fields("padded fields", &small.padded);
@@ -115,6 +118,16 @@ fn tell_texts(scene: &Scene) {
     tell_words(&t.image);
     println!("  read at {:?} image of {} bytes", t.places, scene.image.len());
     tell_words(&scene.image);
+}
+
+/// The two places where an inverse is asked for.
+fn tell_inversion(scene: &Scene) {
+    let v = &scene.inversion;
+    println!("  inverted room {}, applied limit {}", v.room, v.limit);
+    for (image, address) in [(&v.image, v.address), (&scene.image, scene.address)] {
+        println!("  at {address} image of {} bytes", image.len());
+        tell_words(image);
+    }
 }
 
 /// The scene in words: what is asked, and the image's words that are not zero.

@@ -1,8 +1,9 @@
-// A scene: one image with an address and a limit, the values that are asked there, and the fields of one block to write.
+// A scene: one image with an address and a limit, the values that are asked there, the fields of one block to write, and a block to invert.
 // Seed and number give the same scene on every machine.
 use crate::damage;
 use crate::grow::Grower;
 use crate::hostile;
+use crate::keyed::{self, Inversion};
 use crate::lent::LARGEST_IMAGE;
 use crate::numbers;
 use crate::plan::{Laid, Node, Plan};
@@ -22,11 +23,12 @@ const MOST_EXCESS: u64 = 6000;
 /// A limit that no grown tree reaches.
 pub const WIDE_LIMIT: u32 = 20_000;
 
-/// Widths, editions, padded fields and texts are each drawn apart, so that they change no image and no value of a seed, nor each other.
+/// Widths, editions, padded fields, texts and inversions are each drawn apart, so that they change no image and no value of a seed, nor each other.
 const WIDTHS: u64 = 0x7769_6474_6873;
 const EDITIONS: u64 = 0x6564_6974_696f_6e73;
 const PADDED: u64 = 0x7061_6464_6564;
 const TEXTS: u64 = 0x74_6578_7473;
+const INVERSIONS: u64 = 0x69_6e76_6572_7365;
 
 fn is_hostile(number: u64) -> bool {
     number % HOSTILE_EVERY == HOSTILE_EVERY - 1
@@ -90,6 +92,7 @@ pub struct Scene {
     /// Others, with padding.
     pub padded: Fields,
     pub texts: Texts,
+    pub inversion: Inversion,
     /// Whether the work of its calls is measured.
     pub hostile: bool,
 }
@@ -100,8 +103,9 @@ impl Scene {
         let mut modes = Modes::new(seed, number);
         let padded = padded_fields(&mut Random::new(seed ^ PADDED, number));
         let mut text_draws = Random::new(seed ^ TEXTS, number);
+        let inversion = keyed::grow(is_hostile(number), &mut Random::new(seed ^ INVERSIONS, number));
         if is_hostile(number) {
-            return Scene::hostile(&mut r, &mut modes, padded, &mut text_draws);
+            return Scene::hostile(&mut r, &mut modes, padded, &mut text_draws, inversion);
         }
         let grown = Grower::grow(&mut r);
         let mut laid = grown.plan.lay(&mut r);
@@ -126,7 +130,8 @@ impl Scene {
         let limit = limit(&laid.image, address, &mut r);
         let root = RIGHT.opened(&laid.image, address);
         let wants_text = root.is_some_and(|b| b.kind == 9 || b.kind == 10);
-        let mut scene = Scene { image: laid.image, address, limit, asks: Vec::new(), fields: fields(&mut r, 0, 0), padded, texts, hostile: false };
+        let fields = fields(&mut r, 0, 0);
+        let mut scene = Scene { image: laid.image, address, limit, asks: Vec::new(), fields, padded, texts, inversion, hostile: false };
         for _ in 0..ASKS {
             let value = numbers::value(&mut r, &grown.palette, wants_text);
             let text = if value == Value::Text { numbers::question(&mut r, &grown.texts) } else { Vec::new() };
@@ -137,14 +142,15 @@ impl Scene {
     }
 
     /// A hostile image, which is not damaged; the room is mostly small.
-    fn hostile(r: &mut Random, modes: &mut Modes, padded: Fields, text_draws: &mut Random) -> Scene {
+    fn hostile(r: &mut Random, modes: &mut Modes, padded: Fields, text_draws: &mut Random, inversion: Inversion) -> Scene {
         let grown = hostile::grow(r);
         let laid = grown.plan.lay(r);
         let address = laid.places[grown.plan.root];
         let texts = texts(&grown.plan, &laid, address, text_draws);
         let limit = limit(&laid.image, address, r);
         let wants_text = RIGHT.opened(&laid.image, address).is_some_and(|b| b.kind == 9 || b.kind == 10);
-        let mut scene = Scene { image: laid.image, address, limit, asks: Vec::new(), fields: fields(r, 0, 0), padded, texts, hostile: true };
+        let fields = fields(r, 0, 0);
+        let mut scene = Scene { image: laid.image, address, limit, asks: Vec::new(), fields, padded, texts, inversion, hostile: true };
         for _ in 0..ASKS {
             let value = match r.below(10) {
                 0 => numbers::value(r, &grown.palette, wants_text),

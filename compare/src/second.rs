@@ -1,16 +1,18 @@
-// A second reading of document 01 and requests [2], [5], [6], [8], [11] and [13], plain and slow: check, apply, parse, write, the type 10 entry and
-// text blocks. It judges the proved build where the crate has no say, and with one rule broken (`wrong`) it is a wrong build that the comparison has
-// to catch.
+// A second reading of document 01 and requests [2], [5], [6], [7], [8], [11] and [13], plain and slow: check, apply, parse, write, the type 10 entry,
+// text blocks and the inverse of a value to text block. It judges the proved build where the crate has no say, and with one rule broken (`wrong`) it is
+// a wrong build that the comparison has to catch.
 mod apply;
 mod block;
+mod inverse;
 mod padding;
 mod rules;
 mod texts;
 
-use crate::side::{Applied, Block, Checked, Mode, Parsed, Shown, Side, Text, Value, Written, STANDARD};
+use crate::side::{Applied, Block, Checked, Inverted, Mode, Parsed, Shown, Side, Text, Value, Written, STANDARD};
 use crate::wrong::Wrong;
 use apply::{Application, Says};
 pub use block::{bound, Found};
+pub use inverse::Key;
 
 pub struct Second {
     pub wrong: Wrong,
@@ -449,5 +451,9 @@ impl Side for Second {
 
     fn write_text(&self, metadata: bool, text: &[u8], out: &mut [u8]) -> Written {
         self.text_written(metadata, text, out)
+    }
+
+    fn invert(&self, image: &[u8], address: u64, out: &mut [u8]) -> Inverted {
+        self.inverted(image, address, out)
     }
 }

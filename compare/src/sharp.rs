@@ -70,9 +70,9 @@ pub fn list() -> String {
         String::new(),
         "Each is the second reading (src/second.rs) with one rule of document 01, or of request [2] on widths, [5] on malformed tables, [6] on"
             .to_string(),
-        "padding, [8] on editions, [11] on few links or [13] on text blocks, broken. `make sharp` puts each in the place of ours, looks whether the"
+        "padding, [7] on inverses, [8] on editions, [11] on few links or [13] on text blocks, broken. `make sharp` puts each in the place of ours,"
             .to_string(),
-        "comparison catches it, and prints how many it caught.".to_string(),
+        "looks whether the comparison catches it, and prints how many it caught.".to_string(),
         String::new(),
         "\"Crate\": the comparison with the crate has to catch it. \"Ours\": the crate has no such rule or no say, and the comparison with the"
             .to_string(),

@@ -102,6 +102,16 @@ pub struct Text {
     pub length: u64,
 }
 
+/// `index`: the key that a refusal is for. `length`: the bytes of the block that was written.
+#[repr(C)]
+#[derive(Clone, Copy, Debug, Default, PartialEq, Eq)]
+pub struct Inverted {
+    pub refusal: u32,
+    pub index: u32,
+    pub address: u64,
+    pub length: u64,
+}
+
 /// One of the two builds of document 01 that are compared.
 pub trait Side {
     fn check(&self, image: &[u8], address: u64, limit: u32) -> Checked;
@@ -122,6 +132,9 @@ pub trait Side {
 
     /// A text as a block: ##MD where it is metadata, else ##TX.
     fn write_text(&self, metadata: bool, text: &[u8], out: &mut [u8]) -> Written;
+
+    /// The text to value block of the value to text block at an address.
+    fn invert(&self, image: &[u8], address: u64, out: &mut [u8]) -> Inverted;
 
     /// What a call has touched that it may not, since this was last asked.
     fn fault(&self) -> Option<&'static str> {

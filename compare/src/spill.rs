@@ -3,11 +3,11 @@ use crate::judge::{guards_stand, with_side};
 use crate::lent::{Guarded, PAGE};
 use crate::scene::Scene;
 use crate::second::RIGHT;
-use crate::side::{Applied, Block, Checked, Mode, Parsed, Shown, Side, Text, Value, Written};
+use crate::side::{Applied, Block, Checked, Inverted, Mode, Parsed, Shown, Side, Text, Value, Written};
 use crate::tally::Tally;
 
 /// A build with right answers that changes one byte that it may not: in applications beside the output, of the image, or of the text; in the calls of
-/// text blocks beside the block that is written, of the text to write, or of the image that is read.
+/// text blocks beside the block that is written, of the text to write, or of the image that is read; in inversions beside the output, or of the image.
 struct Spills(Spilt);
 
 #[derive(Clone, Copy, Debug)]
@@ -18,6 +18,8 @@ enum Spilt {
     BesideTextBlock,
     TextToWrite,
     ImageOfText,
+    BesideInverse,
+    ImageOfInverse,
 }
 
 /// The address of a byte beside a lent buffer. One at the front edge of its pages has its guard behind it, one at the back edge before it.
@@ -92,11 +94,22 @@ impl Side for Spills {
         }
         answer
     }
+
+    fn invert(&self, image: &[u8], address: u64, out: &mut [u8]) -> Inverted {
+        let answer = RIGHT.invert(image, address, out);
+        match self.0 {
+            Spilt::BesideInverse if !out.is_empty() => change(beside(out)),
+            Spilt::ImageOfInverse if !image.is_empty() => change(image.as_ptr() as *mut u8),
+            _ => {}
+        }
+        answer
+    }
 }
 
 /// Whether the guards see each spilt byte.
 pub fn guards_see(seed: u64, scenes: u64) -> bool {
-    let all = [Spilt::BesideOutput, Spilt::Image, Spilt::Text, Spilt::BesideTextBlock, Spilt::TextToWrite, Spilt::ImageOfText];
+    let of_texts = [Spilt::BesideTextBlock, Spilt::TextToWrite, Spilt::ImageOfText];
+    let all = [Spilt::BesideOutput, Spilt::Image, Spilt::Text].into_iter().chain(of_texts).chain([Spilt::BesideInverse, Spilt::ImageOfInverse]);
     all.into_iter().all(|spilt| {
         let build = Guarded::new(Spills(spilt));
         let seen = (0..scenes).any(|i| {

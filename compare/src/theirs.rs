@@ -37,6 +37,11 @@ fn asked<T>(question: impl FnOnce() -> Result<T, MdfError>) -> Outcome<T> {
     }
 }
 
+/// The block at an address, its references not looked at.
+pub fn parsed(image: &[u8], address: u64) -> Outcome<ConversionBlock> {
+    asked(|| ConversionBlock::from_bytes(&image[address as usize..]))
+}
+
 /// The block at an address, its references resolved.
 pub fn resolved(image: &[u8], address: u64) -> Outcome<ConversionBlock> {
     asked(|| {
