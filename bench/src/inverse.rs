@@ -31,7 +31,7 @@ const SHAPES: &[Shape] = &[
     Shape { name: "shared-240", says: "texts that share their first 240 bytes and differ at the end", text: |i| shared(240, i) },
     Shape { name: "first-bytes", says: "texts whose first bytes are all unlike within each 255", text: first_bytes },
     Shape { name: "equal-hashes", says: "texts of 112 bytes that have one hash", text: equal_hashes },
-    Shape { name: "unlike-of-one-hash", says: "texts of 120 bytes that have one hash, their first bytes all unlike within each 255", text: unlike_of_one_hash },
+    Shape { name: "unlike-of-one-hash", says: "the same behind 8 bytes more, the first of them all unlike within each 255", text: unlike_of_one_hash },
     Shape { name: "near-keys", says: "keys that differ in their last bits alone", text: name },
     Shape { name: "last-repeats", says: "the last text is the first one again, at another address: refused with 13", text: name },
     Shape { name: "long-text", says: "one text of 1,000,000 bytes, the first", text: long_first },
