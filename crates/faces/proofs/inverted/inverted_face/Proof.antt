@@ -1,4 +1,9 @@
 -- `faces::inverted::inverted_face` meets its contract. Assumes nothing.
+use mathlib.Core.Path.{sym, ap, _∙_}
+use Prim.Native.Nat.{ℕ}
+use Rattle.common.specs.Refusal.{numberOf, indexOf}
+use Rattle.faces.specs.Checked.{addressOr}
+use Rattle.faces.specs.Inverted.{invertedFace}
 use borrow.Author.Needs.{needs}
 use Rattle.faces.proofs.inverted.inverted_face.Statement.{statement}
 use Rattle.faces.proofs.inverted.inverted_face.Tie as tie
@@ -25,17 +30,18 @@ address-or-requires : tie.Need-address-or-requires
 address-or-requires c κs = search needs
 
 returns : tie.Need-returns
-returns c = rw (c .before .w .given .1)
+returns c = ap invertedFace (sym (c .before .w .given .1))
 
 returns-2 : tie.Need-returns-2
 returns-2 c =
-    rw (
-      c .before .before .before .before .before .w2 .given .1,
-      c .before .before .before .number .ensures,
-      c .before .before .index .ensures,
-      c .address-or .ensures,
-      c .before .address .ensures,
-    )
+    let a = c .before in
+    let i = a .before in
+    let n = i .before in
+    let r = n .before .before .w2 .given .0 .0 in
+    ap (λ (k : ℕ). record { refusal = k; index = i .index .result; address = c .address-or .result; length = 0 }) (n .number .ensures)
+    ∙ ap (λ (k : ℕ). record { refusal = numberOf r; index = k; address = c .address-or .result; length = 0 }) (i .index .ensures)
+    ∙ ap (λ (k : ℕ). record { refusal = numberOf r; index = indexOf r; address = k; length = 0 }) (c .address-or .ensures ∙ ap addressOr (a .address .ensures))
+    ∙ ap invertedFace (sym (n .before .before .w2 .given .1))
 
 pub inverted-face-spec : {M : Type 1} → statement M
 inverted-face-spec =
