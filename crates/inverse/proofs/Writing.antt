@@ -1,19 +1,16 @@
 -- The block that is made, put part by part. Assumes nothing.
 use mathlib.Core.Path.{_≡_, refl, sym, ap, subst, _∙_}
-use mathlib.Core.Bool.{Bool, true, false}
-use mathlib.Core.List.{List, [], _∷_, _++_, append-nil}
+use mathlib.Core.Bool.{false}
+use mathlib.Core.List.{List, _∷_, _++_, append-nil}
 use Prim.Native.Nat.{ℕ, zero, suc, _+_, _-_, _*_, _≤_, _<_}
 use native.Mathlib.Omega.{arith}
 use borrow.Author.Tests.{eq-eqb, ne-eqb}
-use lib.Dec.{eqb}
-use lib.ListN as ListN
 use lib.ListN.{length, getD, take}
 use Rattle.words.specs.Words.{word64, words, bytes8, put, links}
 use Rattle.words.proofs.Laws.{two-puts, Putting, putting-none, putting-more, putting-done}
 use Rattle.words.proofs.Slices.{length-words}
 use Rattle.common.specs.Header.{conversionId, headerBytes}
-use Rattle.common.specs.Written.{writeCall, holding}
-use Rattle.common.specs.declared.refusal.Refusal.{Refusal}
+use Rattle.common.specs.Written.{writeCall}
 use Rattle.common.specs.declared.refusal.Refusal.the-variants.{WrongType}
 use Rattle.common.specs.declared.written.Written.the-variants.{Unwritten}
 use Rattle.blocks.specs.Block.{refCount, fieldsPlace, fieldsAt, valCount, valuesPlace, blockEnd, blockAt, parsed}
@@ -21,15 +18,13 @@ use Rattle.blocks.specs.Place.{references, valueWords}
 use Rattle.blocks.specs.View.{viewOf}
 use Rattle.blocks.specs.declared.view.View.{View}
 use Rattle.blocks.specs.declared.Block.{Block}
-use Rattle.blocks.specs.declared.Parsed.{Parsed}
-use Rattle.blocks.specs.declared.Parsed.the-variants.{Whole, Refused}
+use Rattle.blocks.specs.declared.Parsed.the-variants.{Whole}
 use Rattle.blocks.proofs.Opening.{parsed-whole}
 use Rattle.writer.specs.Write.{writeSize, fixedBytes, fieldBytes, frontBytes, blockBytes}
 use Rattle.writer.proofs.Writing.{front-parts, length-front, length-block}
 use Rattle.keys.specs.Keys.{firstFault, KeysIn}
-use Rattle.inverse.specs.Invert.{inverseOf, inverseBytes, unlessFaulty, inverted, invertedAs, inverting, KeyPlaces}
+use Rattle.inverse.specs.Invert.{inverseOf, inverseBytes, unlessFaulty, inverted, KeyPlaces}
 use Rattle.keys.specs.declared.Fault.{Fault}
-use Rattle.keys.specs.declared.Fault.the-variants.{Faulty, Faultless}
 
 -- the i-th of the words from a place on
 pub word-of : (s : List ℕ) (first n i : ℕ) → i < n → getD (words s first n) i 0 ≡ word64 s (first + 8 * i)

@@ -4,17 +4,16 @@ use mathlib.Core.Bool.{Bool, true, false, not, _&&_, cond}
 use mathlib.Core.List.{List, _++_}
 use Prim.Native.Nat.{ℕ, _+_, _-_, _≤_}
 use native.Mathlib.Omega.{arith}
-use borrow.Author.Tests.{le-leb, leb-true, eq-eqb, eqb-true, eqb-false, ne-eqb}
+use borrow.Author.Tests.{le-leb, leb-true, eq-eqb, eqb-true, eqb-false}
 use lib.Dec.{leb, eqb}
 use lib.ListN.{length, take, drop, length-append, length-drop, List·getD-append}
 use lib.Seq.{take-append-le, drop-append-le}
-use Rattle.words.specs.Words.{word16, word32, word64, part}
+use Rattle.words.specs.Words.{word16, word32, word64}
 use Rattle.words.proofs.Clash.{clash}
 use Rattle.common.specs.Header.{inside, textId, hasId, conversionId, isConversion}
 use Rattle.common.specs.Text.{untilZero, isWholeText, runAt, runOf, textBytes}
 use Rattle.common.proofs.Headers.{inside-fits}
 use Rattle.common.proofs.Texts.{run-inside, run-whole}
-use Rattle.common.specs.declared.text.Text.{Text}
 use Rattle.common.specs.declared.text.Text.the-variants.{Part, NoText}
 
 -- what is told by a link's run: the link is not NIL, and a whole ##TX stands there

@@ -1,17 +1,17 @@
 -- Request [7]: "Set behind the end of the old image and applied there with a limit of 1 or more to any key's text, the new block gives that key", and
 -- any other text is Unknown. Assumes nothing.
 use mathlib.Core.Path.{_≡_, refl, sym, ap, subst, _∙_}
-use mathlib.Core.Bool.{Bool, true, false, not, _||_, cond}
+use mathlib.Core.Bool.{Bool, true, false, cond}
 use mathlib.Core.List.{List, [], _∷_, _++_, append-assoc}
-use Prim.Native.Nat.{ℕ, zero, suc, _+_, _-_, _*_, _^_, _≤_, _<_}
+use Prim.Native.Nat.{ℕ, zero, suc, _+_, _-_, _*_, _≤_, _<_}
 use native.Mathlib.Omega.{arith}
-use borrow.Author.Tests.{ltb-true, ltb-false, eqb-true, eqb-false, ne-eqb, eq-eqb}
+use borrow.Author.Tests.{ltb-true, ltb-false, ne-eqb}
 use lib.Dec.{ltb, eqb}
 use lib.ListN.{length}
-use lib.Ieee.{Float, binary64, ofBits, toBits, isNan}
+use lib.Ieee.{binary64, toBits}
 use lib.Ieee.Bits.{ofBits-fits, toBits-ofBits}
 use Rattle.floats.proofs.Nan.{not-true}
-use Rattle.words.specs.Words.{word16, word64, words, valueAt}
+use Rattle.words.specs.Words.{word64, words, valueAt}
 use Rattle.words.proofs.Clash.{clash}
 use Rattle.words.proofs.Slices.{Bytes, length-words, word16-small, word64-small, words-small}
 use Rattle.common.specs.Header.{inside, isConversion}
@@ -19,7 +19,6 @@ use Rattle.common.specs.Text.{runOf, textBytes}
 use Rattle.common.specs.Types.{typeOf}
 use Rattle.common.specs.declared.types.ConversionType.{ConversionType}
 use Rattle.common.specs.declared.types.ConversionType.the-variants as kind
-use Rattle.common.proofs.Texts.{run-within}
 use Rattle.common.specs.declared.text.Text.{Text}
 use Rattle.common.specs.declared.text.Text.the-variants.{Part, NoText}
 use Rattle.common.specs.declared.refusal.Word.{Word}
@@ -38,12 +37,11 @@ use Rattle.blocks.proofs.Opening.{parsed-whole, parsed-is-read, opened-whole}
 use Rattle.blocks.proofs.Places.{word-there, word-past-count, by-place, reference-there, references-read}
 use Rattle.leads.specs.Lead.{nestedAt, leadOf, leadAt, byText, byLink}
 use Rattle.leads.specs.Keys.{sameBytes, isKey, firstText, valueKey}
-use Rattle.leads.specs.declared.lead.Lead.{Lead}
 use Rattle.leads.specs.declared.lead.Lead.the-variants.{Words, Nested, Nil, Elsewhere}
 use Rattle.writer.specs.Write.{writeSize, blockBytes}
 use Rattle.writer.specs.Stored.{stored, Sized}
 use Rattle.writer.proofs.ParseWritten.{parse-written, references-written, values-written}
-use Rattle.repeats.specs.Repeats.{leadText, textAt, textAmong, textRepeated, firstOf}
+use Rattle.repeats.specs.Repeats.{leadText, textAt, textRepeated, firstOf}
 use Rattle.keys.specs.Keys.{keyAt, isEmpty, firstFault}
 use Rattle.inverse.specs.Invert.{inverseOf, KeyPlaces}
 use Rattle.keys.specs.declared.Fault.the-variants.{Faultless}

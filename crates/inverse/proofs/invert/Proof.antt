@@ -1,5 +1,5 @@
 -- `inverse::invert` meets its contract. Assumes nothing.
-use mathlib.Core.Path.{_≡_, sym, ap, _∙_}
+use mathlib.Core.Path.{sym, ap, _∙_}
 use denote.Ref.{now}
 use Rattle.blocks.specs.declared.Parsed.{Parsed}
 use Rattle.inverse.specs.Invert.{invertedAs, inverting}

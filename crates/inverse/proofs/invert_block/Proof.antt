@@ -1,14 +1,12 @@
 -- `inverse::invert_block` meets its contract. Assumes nothing.
-use mathlib.Core.Path.{_≡_, sym, ap, subst, _∙_}
-use native.Mathlib.Omega.{arith}
+use mathlib.Core.Path.{sym, ap, subst, _∙_}
 use denote.Ref.{now}
-use Prim.Native.Nat.{_-_, _≤_}
 use mathlib.Core.List.{List}
 use Prim.Native.Nat.{ℕ}
 use Rattle.blocks.specs.View.{viewOf}
 use Rattle.blocks.specs.declared.view.View.{View}
 use Rattle.common.specs.Written.{holding}
-use Rattle.keys.specs.Keys.{firstFault, KeysIn}
+use Rattle.keys.specs.Keys.{KeysIn}
 use Rattle.keys.specs.declared.Fault.the-variants.{Faulty, Faultless}
 use Rattle.keys.proofs.Faults.{references-enough}
 use Rattle.inverse.proofs.Writing.{keys-in, key-places, block-is, other-type, of-fault, fault-seen}

@@ -1,5 +1,4 @@
 -- `inverse::put_inverse` meets its contract. Assumes nothing.
-use native.Mathlib.Omega.{arith}
 use denote.Ref.{now}
 use Rattle.words.proofs.Slices.{length-words}
 use Rattle.inverse.proofs.Writing.{inverse-put}

@@ -1,6 +1,5 @@
 -- `inverse::put_words` meets its contract. Before each turn the words from the i-th on are still to be put. Assumes nothing.
-use mathlib.Core.Path.{_≡_, refl, sym, ap, _∙_}
-use Prim.Native.Nat.{ℕ, _+_, _-_, _*_, _≤_}
+use Prim.Native.Nat.{_-_}
 use native.Mathlib.Omega.{arith}
 use Rattle.inverse.proofs.Writing.{PuttingWords, words-none, words-more, words-done}
 use borrow.Author.Needs.{needs}

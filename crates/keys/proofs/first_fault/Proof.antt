@@ -1,9 +1,9 @@
 -- `keys::first_fault` meets its contract. Assumes nothing.
-use mathlib.Core.Path.{_≡_, sym, ap, _∙_}
+use mathlib.Core.Path.{sym, ap, _∙_}
 use native.Mathlib.Omega.{arith}
 use denote.Ref.{now}
 use Rattle.keys.specs.declared.Fault.the-variants.{Faulty}
-use Rattle.keys.proofs.Faults.{first-within, usable-numbers, fault-places, fault-repeated, fault-unusable, faultless}
+use Rattle.keys.proofs.Faults.{first-within, usable-numbers, fault-repeated, fault-unusable, faultless}
 use borrow.Author.Needs.{needs}
 use Rattle.keys.proofs.first_fault.Statement.{statement}
 use Rattle.keys.proofs.first_fault.Tie as tie

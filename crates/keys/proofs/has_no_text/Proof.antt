@@ -1,6 +1,5 @@
 -- `keys::has_no_text` meets its contract. Assumes nothing.
 use mathlib.Core.Path.{sym, ap, subst, _∙_}
-use mathlib.Core.List.{List}
 use denote.Ref.{now}
 use Rattle.leads.specs.Lead.{LeadIn}
 use Rattle.leads.proofs.Leads.{lead-at-inside}

@@ -1,12 +1,7 @@
 -- `keys::is_empty_run` meets its contract. Assumes nothing.
-use mathlib.Core.Path.{_≡_, sym}
-use mathlib.Core.Bool.{Bool, true, false}
-use Prim.Native.Nat.{ℕ}
+use mathlib.Core.Path.{sym}
 use native.Mathlib.Omega.{arith}
-use borrow.Author.Tests.{eqb-true, eqb-false}
 use denote.Ref.{now}
-use lib.Dec.{eqb}
-use lib.ListN.{getD}
 use Rattle.keys.proofs.Faults.{empty-run, first-byte-tells}
 use borrow.Author.Needs.{needs}
 use Rattle.keys.proofs.is_empty_run.Statement.{statement}

@@ -1,6 +1,6 @@
 -- `keys::is_repeated_key` meets its contract. Before each turn it is known whether one of the first j is equal. Assumes nothing.
 use mathlib.Core.Path.{_≡_, refl, ap, _∙_}
-use Prim.Native.Nat.{_+_, _-_, _≤_}
+use Prim.Native.Nat.{_-_, _≤_}
 use native.Mathlib.Omega.{arith}
 use denote.Ref.{now}
 use Rattle.keys.specs.Keys.{keyAmong}

@@ -2,9 +2,8 @@
 use mathlib.Core.Path.{_≡_, sym, ap, _∙_}
 use mathlib.Core.Bool.{Bool, true, false, _||_}
 use denote.Ref.{now}
-use lib.Ieee.{isNan}
 use Rattle.repeats.specs.Repeats.{textAt}
-use Rattle.keys.specs.Keys.{keyAt, isEmpty, unusable}
+use Rattle.keys.specs.Keys.{isEmpty, unusable}
 use borrow.Author.Needs.{needs}
 use Rattle.keys.proofs.is_unusable.Statement.{statement}
 use Rattle.keys.proofs.is_unusable.Tie as tie

@@ -1,11 +1,10 @@
 -- `keys::number_at` meets its contract. Assumes nothing.
-use mathlib.Core.Path.{_≡_, sym, ap, _∙_}
+use mathlib.Core.Path.{_≡_, ap, _∙_}
 use mathlib.Core.Bool.{false}
-use denote.Ref.{now}
 use lib.Ieee.{binary64, ofBits, nanBits}
 use lib.Ieee.Bits.{nanBits-is}
 use Rattle.floats.proofs.Nan.{not-true}
-use Rattle.words.specs.Words.{word64, valueAt}
+use Rattle.words.specs.Words.{valueAt}
 use Rattle.keys.specs.Keys.{keyAt}
 use borrow.Author.Needs.{needs}
 use Rattle.keys.proofs.number_at.Statement.{statement}

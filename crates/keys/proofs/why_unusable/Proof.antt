@@ -1,7 +1,6 @@
 -- `keys::why_unusable` meets its contract. Assumes nothing.
 use mathlib.Core.Path.{_≡_, sym, ap, _∙_}
 use mathlib.Core.Bool.{Bool, true, false, cond}
-use denote.Ref.{now}
 use Rattle.common.specs.declared.refusal.Refusal.the-variants.{NotText, Key}
 use Rattle.keys.specs.Keys.{whyUnusable}
 use borrow.Author.Needs.{needs}

@@ -1,5 +1,4 @@
 -- `repeats::is_among` meets its contract. Where nothing was found, none of the first k hashes is h. Assumes nothing.
-use mathlib.Core.Path.{_≡_}
 use Prim.Native.Nat.{_-_, _≤_}
 use native.Mathlib.Omega.{arith}
 use denote.Ref.{now}
