@@ -1,6 +1,9 @@
 // The record of a ##CC block: read from an image, and its references and values read by place. Carries over the parsing half of base.rs.
 //
 // Nothing is copied: the record says where the references and the values stand, and the image is read again.
+
+#![tactic(auto)]
+
 pub mod view;
 
 ghost use Rattle.std.specs.Prelude.{◌≡◌, ◌+◌, ◌-◌, ◌*◌, ◌≤◌, ◌<◌, ◌^◌};
@@ -16,7 +19,7 @@ use common::refusal::{Refusal, Word};
 use view::{Seen, View};
 use words::Cursor;
 
-#[derive(Drop)]
+#[derive(Clone, Copy)]
 pub struct Block {
     // As the header has them.
     pub length: u64,
@@ -46,7 +49,7 @@ pub struct Block {
     pub excess: u64,
 }
 
-#[derive(Drop)]
+#[derive(Clone, Copy)]
 pub enum Parsed {
     Whole(Block),
     Refused(Refusal),

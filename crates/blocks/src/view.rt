@@ -8,7 +8,7 @@ ghost use Rattle.blocks.specs.View.{view_of, seen, reference_in, value_word_in, 
 use crate::{Block, Number, has_range, less_fixed, range_size};
 use common::refusal::Word;
 
-#[derive(Drop)]
+#[derive(Clone, Copy)]
 pub struct View {
     pub kind: u8,
     // The references past the four fixed links, and the place of the first.

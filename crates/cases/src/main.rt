@@ -2,6 +2,9 @@
 //
 // The cases stand in the file stdin, which says how they are written, and the file stdout has what the library must answer, worked out from
 // document 01 by hand or by a calculator that shares nothing with it. So a case is data, and the program that obeys them stays small.
+
+#![tactic(auto)]
+
 mod apply;
 mod block;
 mod build;

@@ -5,7 +5,7 @@ ghost use Rattle.common.specs.Refusal.{number_of, address_of, index_of};
 
 // 1 to 6, 15, 18 and 22 carry the address of the block or the link, 12 to 14 the index of a key. They stand first, so that the machine tells each kind
 // from the others by one comparison.
-#[derive(Drop)]
+#[derive(Clone, Copy)]
 pub enum Refusal {
     Outside(u64),
     NotConversion(u64),

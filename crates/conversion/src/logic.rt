@@ -25,7 +25,7 @@ use steps::mode::Mode;
 use tree::{Checked, check};
 
 // Document 01's answers.
-#[derive(Drop)]
+#[derive(Clone, Copy)]
 pub enum Answer {
     Number(f64),
     // The length of the text, which stands in the output from byte 0 on.

@@ -4,6 +4,9 @@
 //
 // Only bit groups write: a text that runs in the image is said by where it runs, and its end is not looked for. They measure and write by the same
 // functions, see crate `pieces`. The engine is total over every image; a block that cannot be opened stops it, which an accepted check rules out.
+
+#![tactic(auto)]
+
 ghost use Rattle.std.specs.Prelude.{◌≡◌, ◌+◌, ◌≤◌, length};
 ghost use Rattle.leads.specs.Lead.{LeadIn};
 ghost use Rattle.rules.specs.Numbers.{taken};

@@ -1,5 +1,8 @@
 // How C sees what the public entries take and answer: structs with C's layouts, and the functions that fill them. Each fills every field. See each
 // module.
+
+#![tactic(auto)]
+
 pub mod applied;
 pub mod block;
 pub mod checked;

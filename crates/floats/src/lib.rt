@@ -3,6 +3,9 @@
 //
 // The language has one NaN and leaves `from_bits` and `to_bits` undefined there, so both functions test for it first. The bits that `from_u64` and
 // `from_i64` put together are no NaN's, and are read without a test.
+
+#![tactic(auto)]
+
 ghost use Rattle.std.specs.Prelude.{◌≡◌, pos, from_bits, to_bits, unsigned_abs};
 ghost use Rattle.std.specs.Float.{binary64};
 ghost use Rattle.std.specs.Float.Ieee.{of_int, nan_bits};

@@ -1,4 +1,7 @@
 // What C and Rust call: the public entries with C's layouts. Each function is total and cites the definition of its entry. See each module.
+
+#![tactic(auto)]
+
 pub mod applied;
 pub mod block;
 pub mod checked;

@@ -2,6 +2,9 @@
 // crate.
 //
 // Nothing is copied but the block that is written: its references and values go from the image to the output as words, so that a key keeps its 64 bits.
+
+#![tactic(auto)]
+
 ghost use Rattle.std.specs.Prelude.{◌≡◌, ◌+◌, ◌-◌, ◌*◌, ◌≤◌, length as length_of};
 ghost use Rattle.words.specs.Words.{put, links, words as words_at};
 ghost use Rattle.common.specs.Written.{write_call, holding};

@@ -1,4 +1,7 @@
 // The keys of a value to text block: the first that cannot be a key of a text to value block, and why.
+
+#![tactic(auto)]
+
 ghost use Rattle.std.specs.Prelude.{◌≡◌, false, ◌+◌, ◌*◌, ◌≤◌, ◌<◌};
 ghost use Rattle.std.specs.Float.Ieee.{is_nan};
 ghost use Rattle.words.specs.Words.{word64, PartIn};
@@ -19,7 +22,7 @@ pub enum Fault {
 }
 
 // What may be wrong with a key: that it is a NaN or has no text, or that it is equal to an earlier key.
-#[derive(Drop)]
+#[derive(Clone, Copy)]
 pub enum Doubt {
     Unusable,
     RepeatedKey,

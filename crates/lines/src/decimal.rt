@@ -63,7 +63,7 @@ fn digits(millionths: u64) {
 }
 
 // A size in millionths, which the digits behind the point are.
-#[derive(Drop)]
+#[derive(Clone, Copy)]
 struct Parts {
     whole: u64,
     millionths: u64,

@@ -1,5 +1,8 @@
 // What the programs read and write alike: parts of slices, the numbers and texts of commands, memory built from them, what a call is asked,
 // phrases, and floats in decimal.
+
+#![tactic(auto)]
+
 pub mod build;
 pub mod decimal;
 pub mod parts;

@@ -12,7 +12,7 @@ pub struct Found {
 }
 
 // The up to four numbers of a command, 0 where there are fewer, and whether nothing else stands in it.
-#[derive(Drop)]
+#[derive(Clone, Copy)]
 pub struct Args {
     pub a: u64,
     pub b: u64,

@@ -13,7 +13,7 @@ const STANDARD_WIDTH: u32 = 64;
 
 const STANDARD_EDITION: u32 = 420;
 
-#[derive(Drop)]
+#[derive(Clone, Copy)]
 pub struct Request {
     pub address: u64,
     pub value: Value,

@@ -1,5 +1,8 @@
 // Applying in a mode that the caller gives in numbers: the edition of MDF (request [8]) and the width of the signal (request [2]). The crate has no
 // such entry; its rule is that of edition 4.20 and width 64.
+
+#![tactic(auto)]
+
 ghost use Rattle.std.specs.Prelude.{◌≡◌};
 ghost use Rattle.conversion.specs.Entry.{call};
 ghost use Rattle.modes.specs.Asked.{is_edition, is_width, edition_of, mode_of, refusal_of, applying_at};

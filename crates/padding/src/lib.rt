@@ -2,6 +2,9 @@
 // the crate has the reserved bytes, in the header of common.rs, and drops the excess.
 //
 // The excess bytes are counted and not looked at, so that a huge block length costs nothing.
+
+#![tactic(auto)]
+
 ghost use Rattle.std.specs.Prelude.{◌≡◌, ◌-◌};
 ghost use Rattle.blocks.specs.Block.{parsed};
 ghost use Rattle.blocks.specs.declared.Parsed.TheVariants.{Whole};

@@ -2,6 +2,9 @@
 //
 // The cases stand in the file stdin, which says how they are written, and the file stdout has what the library must answer, worked out from request [6] by
 // a calculator that shares nothing with it. A line is written as it is, and behind it its answer.
+
+#![tactic(auto)]
+
 mod parse;
 mod say;
 mod write;
@@ -15,7 +18,7 @@ use lines::read::number;
 pub type Memory = [u8; 524416];
 
 // The six numbers of a line, 0 where there are fewer, and whether nothing else stands in it.
-#[derive(Drop)]
+#[derive(Clone, Copy)]
 pub struct Numbers {
     pub a: u64,
     pub b: u64,

@@ -7,7 +7,7 @@ use steps::plain::Plain;
 
 // A text is said by where it runs in the image, with nothing written, or, where it was put together, by the place behind it, or one behind the
 // room. `Formula` and `Broken` stop the application.
-#[derive(Drop)]
+#[derive(Clone, Copy)]
 pub enum Said {
     Number(f64),
     Words(usize, usize),

@@ -2,6 +2,9 @@
 // links that it has. Carries over nothing of the crate, which still reads such blocks.
 //
 // The references and values are copied as words, so that a NaN keeps its pattern.
+
+#![tactic(auto)]
+
 ghost use Rattle.std.specs.Prelude.{◌≡◌, ◌+◌, ◌*◌, ◌≤◌};
 ghost use Rattle.std.proofs.Math.ListN as ListN;
 ghost use Rattle.words.specs.Words.{words as words_at};
@@ -53,7 +56,8 @@ fn say(line: &[u8], out: &mut [u8]) -> Written
     if out.len() < line.len() {
         return Written::Unwritten(Refusal::Room);
     }
-    Written::Bytes(bytes::copy(line, out))
+    out[..line.len()].copy_from_slice(line);
+    Written::Bytes(line.len())
 }
 
 // Why a block was not read. The number has one digit.

@@ -1,5 +1,8 @@
 // Reads one ##CC block of at most 30,000 bytes from standard input and writes it to standard output with the four fixed links that every block has to
 // have now: link counts 0 to 3 become 4. Longer input gives the line `bad input`, and an input that is no whole block `refused` and the number.
+
+#![tactic(auto)]
+
 use common::written::Written;
 use repair::repair;
 

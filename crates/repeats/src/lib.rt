@@ -10,6 +10,9 @@
 // at the cost above.
 //
 // The texts of a chunk have the numbers from 1 on. Number 0 is the empty text, so that every other number has one below it.
+
+#![tactic(auto)]
+
 ghost use Rattle.std.specs.Prelude.{◌≡◌, ◌+◌, ◌-◌, min, ◌≤◌, ◌<◌, length, get_or};
 ghost use Rattle.repeats.specs.Repeats.{text_at, text_repeated, first_of};
 ghost use Rattle.repeats.specs.Scan.{in_common, run_text, RunIn, RunOf, MetBy, Through, Rows, Kept, Held, Within, Grown, FirstRepeat, Filled, Gone};
@@ -19,7 +22,7 @@ use blocks::view::View;
 use leads::lead::{Lead, lead_at};
 
 // Where a text may run in the image; it ends at the first zero byte there.
-#[derive(Drop)]
+#[derive(Clone, Copy)]
 pub struct Run {
     pub from: usize,
     pub to: usize,

@@ -6,6 +6,9 @@
 // text and the image. A line is the answer as a value, since the crate cannot tell a value that stays as it is from an equal answer: `unsigned`,
 // `signed` and `float` with 64 bits in hexadecimal, `text` with its bytes in hexadecimal, `other`, `unknown`, or `refused` with the number; then
 // N.
+
+#![tactic(auto)]
+
 mod say;
 
 use conversion::logic::apply;

@@ -4,7 +4,7 @@ ghost use Rattle.words.specs.Words.{value_at};
 ghost use Rattle.rules.specs.Numbers.{taken};
 
 // The text's bytes stand beside the value.
-#[derive(Drop)]
+#[derive(Clone, Copy)]
 pub enum Value {
     Unsigned(u64),
     Signed(i64),

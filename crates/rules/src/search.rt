@@ -10,7 +10,7 @@ use crate::table_lookup::is_held_at;
 
 // A match and no match carry the index whose reference decides; a malformed table, for which index 0 decides, carries whether that counts as a
 // match.
-#[derive(Drop)]
+#[derive(Clone, Copy)]
 pub enum Searched {
     Matched(usize),
     Unmatched(usize),

@@ -11,7 +11,8 @@ pub fn ask(image: &[u8], address: u64, limit: u32, text: &[u8], whole: &mut [u8]
     if whole.len() < image.len() {
         return Applied::refused(Refusal::Room);
     }
-    let at = bytes::copy(image, whole);
+    let at = image.len();
+    whole[..at].copy_from_slice(image);
     let end = whole.len();
     match invert(image, address, room(whole, at, end)) {
         Written::Bytes(_) => {

@@ -6,6 +6,9 @@
 // text answer, at most 4096 bytes, the width of the signal, and the number of the edition, these two 2^32 where it names none; then 16 bytes for the
 // text of a value that is one, with zeros behind it. Kind 0 is unsigned, 1 signed in two's complement, 2 a float by its 64 bits, 3 a text, whose length
 // stands for the value, 4 other, and 5 a text that is asked back: the inverse of the conversion is set behind the image, and converts it there.
+
+#![tactic(auto)]
+
 mod back;
 mod line;
 mod say;

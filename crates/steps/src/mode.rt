@@ -6,13 +6,13 @@ ghost use Rattle.steps.specs.Mode.{standard, bits_of};
 use common::refusal::Word;
 use rules::number::Value;
 
-#[derive(Drop)]
+#[derive(Clone, Copy)]
 pub enum Edition {
     Mdf410,
     Mdf420,
 }
 
-#[derive(Drop)]
+#[derive(Clone, Copy)]
 pub struct Mode {
     pub width: u32,
     pub edition: Edition,

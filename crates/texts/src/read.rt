@@ -7,7 +7,7 @@ use common::refusal::Refusal;
 use common::text::{Text, run_at, text_end};
 
 // The id of a text block.
-#[derive(Drop)]
+#[derive(Clone, Copy)]
 pub enum TextId {
     // ##TX, a plain text: what conversions take.
     Tx,

@@ -3,6 +3,9 @@
 //
 // The crate keeps a set of visited addresses and takes each out again when it is done with it: that is the path, at most 21 addresses.
 // It is one array for the whole walk: a block at depth d writes place d, and reads the places up to d.
+
+#![tactic(auto)]
+
 ghost use Rattle.std.specs.Prelude.{◌≡◌, true, ◌+◌, ◌-◌, ◌≤◌, length, take};
 ghost use Rattle.common.specs.Header.{is_conversion};
 ghost use Rattle.tree.specs.Walk.{on, classed, walk as walk_of, answer, checked};

@@ -3,6 +3,9 @@
 //
 // These are inner functions: each asks that its place lies in the bytes, and whoever calls it has shown that.
 // A number is joined from its two halves, which the compiler turns into one load.
+
+#![tactic(auto)]
+
 ghost use Rattle.std.specs.Prelude.{◌≡◌, [], ◌∷◌, map, ◌+◌, ◌*◌, ◌≤◌, ◌<◌, length, get_or, set};
 ghost use Rattle.std.specs.Float.{binary64};
 ghost use Rattle.std.specs.Float.Ieee.{to_bits};

@@ -2,6 +2,9 @@
 //
 // It takes the record's fields, the references and the values, and works out link count, block length and value count itself. The record's padding is
 // written too: the reserved bytes as they are, the excess as zeros behind the values. Nothing is written before it is known that all of it fits.
+
+#![tactic(auto)]
+
 ghost use Rattle.std.specs.Prelude.{◌≡◌, map, ◌+◌, ◌*◌, ◌≤◌, ◌<◌};
 ghost use Rattle.std.proofs.Math.ListN as ListN;
 ghost use Rattle.std.specs.Float.{binary64};

@@ -1,0 +1,6 @@
+-- `blocks::view::View::of` meets its contract. Assumes nothing.
+use borrow.Author.Rules.{rules}
+use Rattle.blocks.proofs.view.View.of.Goals as goal
+
+pub returns : goal.returns
+returns c = rw c.less_fixed.ensures

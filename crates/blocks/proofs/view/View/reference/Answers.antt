@@ -1,0 +1,8 @@
+-- `blocks::view::View::reference` meets its contract. Assumes nothing.
+use Rattle.blocks.specs.View.{reference_in}
+use borrow.Author.Rules.{rules}
+use Rattle.blocks.proofs.view.View.reference.Goals as goal
+
+pub returns : goal.returns
+unfolding reference_in
+returns c = c.word_in.ensures

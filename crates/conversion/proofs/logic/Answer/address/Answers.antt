@@ -1,0 +1,12 @@
+-- `conversion::logic::Answer::address` meets its contract. Assumes nothing.
+use mathlib.Core.Path.{sym, ap, ◌∙◌}
+use Rattle.conversion.specs.Entry.{address_in}
+use Rattle.conversion.proofs.Refusals.{none_refused}
+use borrow.Author.Rules.{rules}
+use Rattle.conversion.proofs.logic.Answer.address.Goals as goal
+
+pub returns-in-Refused : goal.returns-in-Refused
+returns-in-Refused c = c.address.ensures ∙ ap address_in (sym c.in-Refused.is)
+
+pub returns-in_default : goal.returns-in_default
+returns-in_default c = (none_refused c.args.self c.in_default.in_default-own.keys2).1

@@ -1,0 +1,18 @@
+-- `faces::text::text_face` meets its contract. Assumes nothing.
+use mathlib.Core.Path.{sym, ap, subst, ◌∙◌}
+use Prim.Native.Nat.{ℕ, ◌-◌}
+use Rattle.faces.specs.Text.{text_face, InOrder}
+use borrow.Author.Rules.{rules}
+use Rattle.faces.proofs.text.text_face.Goals as goal
+
+pub overflow_sub-length : goal.overflow_sub-length
+overflow_sub-length c = subst InOrder c.in-Found.is c.requires
+
+pub returns-in-Found : goal.returns-in-Found
+returns-in-Found c =
+    let t = c.before.before.t.given in
+    ap (λ (n : ℕ). record { refusal = 0; id = n; address = 0; start = t.0.1.0; length = t.0.1.1.0 - t.0.1.0 }) c.id_number.ensures
+    ∙ ap text_face (sym t.1)
+
+pub returns-in-Unread : goal.returns-in-Unread
+returns-in-Unread c = rw (c.in-Unread.is, c.number.ensures, c.address_or.ensures, c.address.ensures)

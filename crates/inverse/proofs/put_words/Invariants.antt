@@ -1,0 +1,12 @@
+-- put_words.Lts
+use Prim.Native.Nat.{◌-◌}
+use native.Mathlib.Omega.{arith}
+use Rattle.inverse.proofs.Writing.{PuttingWords, words_none, words_more, words_done}
+use borrow.Author.Rules.{rules}
+use Rattle.inverse.proofs.put_words.Given as goal
+
+abbrev pub invariant-loop-i : goal.invariant-loop-i
+invariant-loop-i l = PuttingWords l.initial.out l.at l.image l.first l.count l.i l.out
+
+abbrev pub decreases-loop-i : goal.decreases-loop-i
+decreases-loop-i l = l.count - l.i

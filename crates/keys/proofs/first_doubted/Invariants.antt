@@ -1,0 +1,16 @@
+-- first_doubted.Lts
+use mathlib.Core.Path.{◌≡◌, sym, ap, ◌∙◌}
+use Prim.Native.Nat.{◌+◌, ◌-◌, ◌≤◌}
+use native.Mathlib.Omega.{arith}
+use Rattle.repeats.specs.Repeats.{first_of}
+use Rattle.keys.specs.Keys.{doubted}
+use Rattle.keys.proofs.Faults.{askable_less}
+use Rattle.repeats.proofs.Firsts.{first_here, first_later, first_none}
+use borrow.Author.Rules.{rules}
+use Rattle.keys.proofs.first_doubted.Given as goal
+
+abbrev pub invariant-loop-i : goal.invariant-loop-i
+invariant-loop-i l = (l.i ≤ l.n) × (first_of (doubted l.image l.b l.doubt) 0 l.n ≡ first_of (doubted l.image l.b l.doubt) l.i (l.n - l.i))
+
+abbrev pub decreases-loop-i : goal.decreases-loop-i
+decreases-loop-i l = l.n - l.i

@@ -1,0 +1,14 @@
+-- is_repeated_key.Lts
+use mathlib.Core.Path.{◌≡◌, refl, ap, ◌∙◌}
+use Prim.Native.Nat.{◌-◌, ◌≤◌}
+use native.Mathlib.Omega.{arith}
+use Rattle.keys.specs.Keys.{key_among}
+use Rattle.keys.proofs.Faults.{among_more}
+use borrow.Author.Rules.{rules}
+use Rattle.keys.proofs.is_repeated_key.Given as goal
+
+abbrev pub invariant-loop-j : goal.invariant-loop-j
+invariant-loop-j l = (l.j ≤ l.i) × (l.found ≡ key_among l.image l.b l.i l.j)
+
+abbrev pub decreases-loop-j : goal.decreases-loop-j
+decreases-loop-j l = l.i - l.j

@@ -1,0 +1,9 @@
+-- read.digits.Lts
+use Rattle.std.proofs.Common.{◌-◌, length, rules}
+use Rattle.lines.proofs.read.digits.Given as goal
+
+abbrev pub invariant-loop-i : goal.invariant-loop-i
+invariant-loop-i l = Unit {0}
+
+abbrev pub decreases-loop-i : goal.decreases-loop-i
+decreases-loop-i l = length l.s - l.i

@@ -1,0 +1,10 @@
+-- `pieces::label::paste_label` meets its contract. Assumes nothing.
+use native.Mathlib.Omega.{arith}
+use Rattle.pieces.specs.Label.{label}
+use Rattle.pieces.proofs.Laws.{then}
+use borrow.Author.Rules.{rules}
+use Rattle.pieces.proofs.label.paste_label.Goals as goal
+
+pub returns : goal.returns
+unfolding label
+returns c = then (omega arith) c.paste_bar-p.ensures c.paste_name.ensures

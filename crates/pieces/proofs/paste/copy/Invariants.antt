@@ -1,0 +1,16 @@
+-- paste.copy.Lts
+use mathlib.Core.Path.{◌≡◌}
+use Prim.Native.Nat.{◌+◌, ◌-◌, ◌≤◌}
+use native.Mathlib.Omega.{arith}
+use lib.ListN.{drop, length-drop}
+use Rattle.words.specs.Words.{part}
+use borrow.Author.Rules.{rules}
+use Rattle.pieces.specs.Write.{Wrote}
+use Rattle.pieces.proofs.Laws.{longer, part_start, part_more}
+use Rattle.pieces.proofs.paste.copy.Given as goal
+
+abbrev pub invariant-loop-i : goal.invariant-loop-i
+invariant-loop-i l = (l.from ≤ l.i) × ((l.i ≤ l.to) × ((l.p ≡ l.pos + (l.i - l.from)) × Wrote l.initial.out l.out l.pos l.lim (part l.image l.from l.i)))
+
+abbrev pub decreases-loop-i : goal.decreases-loop-i
+decreases-loop-i l = l.to - l.i

@@ -1,0 +1,15 @@
+-- gather.Lts
+use mathlib.Core.Path.{◌≡◌, refl, subst, ap, ◌∙◌}
+use Prim.Native.Nat.{ℕ, ◌-◌, ◌≤◌}
+use native.Mathlib.Omega.{arith}
+use lib.ListN.{length, take}
+use Rattle.words.specs.Words.{words}
+use borrow.Author.Rules.{rules}
+use Rattle.repair.proofs.Gathering.{gathered}
+use Rattle.repair.proofs.gather.Given as goal
+
+abbrev pub invariant-loop-i : goal.invariant-loop-i
+invariant-loop-i l = (l.i ≤ l.count) × (length l.into ≡ length l.initial.into) × (take l.i l.into ≡ words l.input l.first l.i)
+
+abbrev pub decreases-loop-i : goal.decreases-loop-i
+decreases-loop-i l = l.count - l.i

@@ -1,0 +1,15 @@
+-- hash_all.Lts
+use mathlib.Core.Path.{◌≡◌, ap, ◌∙◌}
+use Prim.Native.Nat.{◌-◌, ◌≤◌}
+use native.Mathlib.Omega.{arith}
+use lib.ListN.{length}
+use Rattle.repeats.specs.Scan.{hash_of, Hashed}
+use Rattle.repeats.proofs.Hashes.{hashed_more}
+use borrow.Author.Rules.{rules}
+use Rattle.repeats.proofs.hash_all.Given as goal
+
+abbrev pub invariant-loop-k : goal.invariant-loop-k
+invariant-loop-k l = (l.k ≤ l.stop - l.start) × (length l.hashes ≡ 256) × Hashed l.image l.b l.start l.k l.hashes
+
+abbrev pub decreases-loop-k : goal.decreases-loop-k
+decreases-loop-k l = l.stop - l.start - l.k

@@ -1,0 +1,13 @@
+-- is_among.Lts
+use Prim.Native.Nat.{◌-◌, ◌≤◌}
+use native.Mathlib.Omega.{arith}
+use Rattle.repeats.specs.Scan.{NoneIs}
+use Rattle.repeats.proofs.Hashes.{none_more}
+use borrow.Author.Rules.{rules}
+use Rattle.repeats.proofs.is_among.Given as goal
+
+abbrev pub invariant-loop-k : goal.invariant-loop-k
+invariant-loop-k l = (l.k ≤ l.count) × NoneIs l.hashes l.k l.h l.found
+
+abbrev pub decreases-loop-k : goal.decreases-loop-k
+decreases-loop-k l = l.count - l.k

@@ -1,0 +1,26 @@
+-- `repeats::run_at` meets its contract. Assumes nothing.
+use mathlib.Core.Path.{refl, sym, ap, ◌∙◌}
+use Rattle.repeats.specs.Repeats.{lead_text}
+use Rattle.repeats.proofs.Runs.{run_words, run_none}
+use borrow.Author.Rules.{rules}
+use Rattle.repeats.proofs.run_at.Goals as goal
+
+pub returns-in-Words : goal.returns-in-Words
+returns-in-Words c =
+    let s = c.args in
+    run_words s.image.now s.b s.i _ (sym c.lead_at.ensures ∙ c.in-Words.is)
+
+pub returns-in-Nested : goal.returns-in-Nested
+returns-in-Nested c =
+    let s = c.args in
+    run_none s.image.now s.b s.i _ refl refl (ap (lead_text s.image.now) (sym c.lead_at.ensures ∙ c.in-Nested.is))
+
+pub returns-in-Nil : goal.returns-in-Nil
+returns-in-Nil c =
+    let s = c.args in
+    run_none s.image.now s.b s.i _ refl refl (ap (lead_text s.image.now) (sym c.lead_at.ensures ∙ c.in-Nil.is))
+
+pub returns-in-Elsewhere : goal.returns-in-Elsewhere
+returns-in-Elsewhere c =
+    let s = c.args in
+    run_none s.image.now s.b s.i _ refl refl (ap (lead_text s.image.now) (sym c.lead_at.ensures ∙ c.in-Elsewhere.is))

@@ -1,0 +1,16 @@
+-- search.Lts
+use mathlib.Core.Path.{◌≡◌}
+use mathlib.Core.List.{List}
+use Prim.Native.Nat.{ℕ, ◌+◌, ◌-◌, ◌≤◌}
+use native.Mathlib.Omega.{arith}
+use lib.ListN.{length}
+use Rattle.repeats.specs.Scan.{run_text, Behind}
+use Rattle.repeats.proofs.Chunks.{told, not_told, comes_again, is_new, behind_none, behind_more}
+use borrow.Author.Rules.{rules}
+use Rattle.repeats.proofs.search.Given as goal
+
+abbrev pub invariant-loop-i : goal.invariant-loop-i
+invariant-loop-i l = (l.stop ≤ l.i) × (l.i ≤ l.bound) × (length l.agree ≡ 256) × Behind l.image l.b l.start l.stop l.i
+
+abbrev pub decreases-loop-i : goal.decreases-loop-i
+decreases-loop-i l = l.bound - l.i

@@ -1,0 +1,18 @@
+-- search.range_index.Lts
+use borrow.Author.Rules.{rules}
+use mathlib.Core.Path.{◌≡◌, sym, ap, ◌∙◌}
+use mathlib.Core.Bool.{true, false}
+use Prim.Native.Nat.{ℕ, ◌+◌, ◌-◌, ◌*◌, ◌≤◌}
+use native.Mathlib.Omega.{arith}
+use Rattle.words.specs.Words.{value_at}
+use Rattle.rules.specs.Values.{values}
+use Rattle.rules.specs.Table.{holds}
+use Rattle.rules.specs.Search.{first_range}
+use Rattle.rules.proofs.Steps.{range_none, range_hit, range_miss}
+use Rattle.rules.proofs.search.range_index.Given as goal
+
+abbrev pub invariant-loop-i : goal.invariant-loop-i
+invariant-loop-i l = (l.at ≡ l.p + l.i * 16) × ((l.i ≤ l.pairs) × (first_range l.whole (values l.image l.p l.n) l.x ≡ l.i + first_range l.whole (values l.image l.at (l.n - l.i * 2)) l.x))
+
+abbrev pub decreases-loop-i : goal.decreases-loop-i
+decreases-loop-i l = l.pairs - l.i

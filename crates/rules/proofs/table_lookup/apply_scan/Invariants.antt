@@ -1,0 +1,17 @@
+-- table_lookup.apply_scan.Lts
+use borrow.Author.Rules.{rules}
+use mathlib.Core.Path.{◌≡◌, refl, sym, ◌∙◌}
+use mathlib.Core.Bool.{true, false, ◌&&◌}
+use Prim.Native.Nat.{◌+◌, ◌*◌, ◌≤◌}
+use native.Mathlib.Omega.{arith}
+use lib.ListN.{length}
+use lib.Ieee.{le}
+use Rattle.words.specs.Words.{value_at}
+use Rattle.rules.proofs.Steps.{scan_at, scan_none, scan_hit, scan_miss}
+use Rattle.rules.proofs.table_lookup.apply_scan.Given as goal
+
+abbrev pub invariant-loop-left : goal.invariant-loop-left
+invariant-loop-left l = (l.at + 16 + l.left * 16 ≤ length l.image) × ((l.k0 ≡ value_at l.image l.at) × (scan_at l.image l.near l.x l.p l.m ≡ scan_at l.image l.near l.x l.at l.left))
+
+abbrev pub decreases-loop-left : goal.decreases-loop-left
+decreases-loop-left l = l.left

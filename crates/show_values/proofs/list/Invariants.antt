@@ -1,0 +1,9 @@
+-- list.Lts
+use Rattle.std.proofs.Common.{◌-◌, ◌≤◌, rules}
+use Rattle.show_values.proofs.list.Given as goal
+
+abbrev pub invariant-loop-i : goal.invariant-loop-i
+invariant-loop-i l = l.count ≤ 910
+
+abbrev pub decreases-loop-i : goal.decreases-loop-i
+decreases-loop-i l = l.count - l.i

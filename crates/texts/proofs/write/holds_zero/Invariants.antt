@@ -1,0 +1,17 @@
+-- write.holds_zero.Lts
+use mathlib.Core.Path.{◌≡◌, refl, sym, ap, ◌∙◌}
+use mathlib.Core.Bool.{Bool, true, false, ◌||◌}
+use mathlib.Core.List.{List}
+use Prim.Native.Nat.{◌-◌, ◌≤◌}
+use native.Mathlib.Omega.{arith}
+use lib.ListN.{length, drop, drop_of_length-le}
+use Rattle.texts.specs.Write.{holds_zero}
+use Rattle.texts.proofs.Writing.{zero_found}
+use borrow.Author.Rules.{rules}
+use Rattle.texts.proofs.write.holds_zero.Given as goal
+
+abbrev pub invariant-loop-i : goal.invariant-loop-i
+invariant-loop-i l = (l.i ≤ length l.text) × (holds_zero l.text ≡ (l.found || holds_zero (drop l.i l.text)))
+
+abbrev pub decreases-loop-i : goal.decreases-loop-i
+decreases-loop-i l = length l.text - l.i

@@ -1,0 +1,12 @@
+-- put_links.Lts
+use borrow.Author.Rules.{rules}
+use Prim.Native.Nat.{◌-◌}
+use lib.ListN.{length}
+use Rattle.words.proofs.Laws.{Putting, putting_none, putting_more, putting_done}
+use Rattle.words.proofs.put_links.Given as goal
+
+abbrev pub invariant-loop-i : goal.invariant-loop-i
+invariant-loop-i l = Putting l.initial.out l.at l.vs l.i l.out l.p
+
+abbrev pub decreases-loop-i : goal.decreases-loop-i
+decreases-loop-i l = length l.vs - l.i
