@@ -3,14 +3,14 @@ use borrow.Author.Rules.{rules}
 use Prim.Native.Nat.{◌-◌, ◌<◌, ◌≤◌}
 use native.Mathlib.Omega.{arith}
 use mathlib.Core.List.{map}
-use lib.Ieee.{toBits, binary64}
+use lib.Ieee.{to_bits, binary64}
 use mathlib.Core.Path.{◌≡◌, sym, ◌∙◌}
 use lib.ListN.{length, get_or, length-map}
 use Rattle.words.proofs.Laws.{Putting, putting_none, putting_more, putting_done, bits_at}
 use Rattle.words.proofs.put_floats.Given as goal
 
 abbrev pub invariant-loop-i : goal.invariant-loop-i
-invariant-loop-i l = Putting l.initial.out l.at (map (toBits binary64) l.vs) l.i l.out l.p
+invariant-loop-i l = Putting l.initial.out l.at (map (to_bits binary64) l.vs) l.i l.out l.p
 
 abbrev pub decreases-loop-i : goal.decreases-loop-i
 decreases-loop-i l = length l.vs - l.i

@@ -1,6 +1,7 @@
 -- `common::text::run_at` meets its contract. Assumes nothing.
 use mathlib.Core.Path.{◌≡◌, sym, ap, ◌∙◌}
 use mathlib.Core.Bool.{true}
+use mathlib.Core.List.{List}
 use Prim.Native.Nat.{ℕ, ◌+◌}
 use native.Mathlib.Omega.{arith}
 use borrow.Author.Tests.{eq-eqb, ne_eqb}
@@ -11,43 +12,42 @@ use Rattle.common.specs.declared.text.Text.TheVariants.{Part}
 use Rattle.common.proofs.Texts.{run_other, run_under, run_cut, run_whole}
 use borrow.Author.Rules.{rules}
 use Rattle.common.proofs.text.run_at.Goals as goal
-use Rattle.common.proofs.text.run_at.Goals.{After-read-head, Else-head-id}
 
 -- what the header says, of the image
-id-is : (c : After-read-head) → c.read-head.result.id ≡ word32 c.args.image.now c.args.at
+id-is : {h : Header} (img : List ℕ) (at : ℕ) → h ≡ header_at img at → h.id ≡ word32 img at
 unfolding header_at
-id-is c = ap (λ (h : Header). h.id) c.read-head.ensures
+id-is img at e = ap (λ (h : Header). h.id) e
 
-length-is : (c : After-read-head) → c.read-head.result.length ≡ word64 c.args.image.now (c.args.at + 8)
+length-is : {h : Header} (img : List ℕ) (at : ℕ) → h ≡ header_at img at → h.length ≡ word64 img (at + 8)
 unfolding header_at
-length-is c = ap (λ (h : Header). h.length) c.read-head.ensures
+length-is img at e = ap (λ (h : Header). h.length) e
 
-is-text : (c : Else-head-id) → has_id c.args.id c.args.image.now c.args.at ≡ true
+is-text : {h : Header} (id : ℕ) (img : List ℕ) (at : ℕ) → h ≡ header_at img at → h.id ≡ id → has_id id img at ≡ true
 unfolding has_id
-is-text c = eq-eqb _ _ (sym (id-is c.before.before) ∙ c.if-head-id.false)
+is-text id img at e same = eq-eqb _ _ (sym (id-is img at e) ∙ same)
 
 pub returns-then-head-id : goal.returns-then-head-id
 unfolding has_id
 returns-then-head-id c =
     let a = c.args in
-    let e = id-is c.before.before.before in
+    let e = id-is c.args.image.now c.args.at c.read-head.ensures in
     sym (run_other a.id a.image.now a.at (ne_eqb _ _ (λ same. c.if-head-id.true (e ∙ same))))
 
 pub returns-then-head-lt24 : goal.returns-then-head-lt24
 returns-then-head-lt24 c =
     let a = c.args in
-    sym (run_under a.id a.image.now a.at (is-text c.before.before.before) (omega (arith, length-is c.before.before.before.before.before)))
+    sym (run_under a.id a.image.now a.at (is-text c.args.id c.args.image.now c.args.at c.read-head.ensures c.if-head-id.false) (omega (arith, length-is c.args.image.now c.args.at c.read-head.ensures)))
 
 pub returns-then-image-at : goal.returns-then-image-at
 returns-then-image-at c =
     let a = c.args in
-    let e = length-is c.before.before.before.before.before.before.before in
-    sym (run_cut a.id a.image.now a.at (is-text c.before.before.before.before.before) (omega arith) (omega arith))
+    let e = length-is c.args.image.now c.args.at c.read-head.ensures in
+    sym (run_cut a.id a.image.now a.at (is-text c.args.id c.args.image.now c.args.at c.read-head.ensures c.if-head-id.false) (omega arith) (omega arith))
 
 pub returns : goal.returns
 returns c =
     let a = c.args in
     let img = a.image.now in
-    let e = length-is c.before.before.before.before.before.before.before in
+    let e = length-is c.args.image.now c.args.at c.read-head.ensures in
     ap (λ (n : ℕ). Part (a.at + 24) (a.at + n)) e
-    ∙ sym (run_whole a.id img a.at (is-text c.before.before.before.before.before) (omega arith) (omega arith))
+    ∙ sym (run_whole a.id img a.at (is-text c.args.id c.args.image.now c.args.at c.read-head.ensures c.if-head-id.false) (omega arith) (omega arith))
