@@ -1,4 +1,4 @@
--- gather.Lts
+-- The loop of `repair::gather`: the words before the i-th are gathered. Assumes nothing.
 use mathlib.Core.Path.{◌≡◌, refl, subst, ap, ◌∙◌}
 use Prim.Native.Nat.{ℕ, ◌-◌, ◌≤◌}
 use native.Mathlib.Omega.{arith}

@@ -8,7 +8,6 @@ use Rattle.words.specs.Words.{bytes8, put}
 use Rattle.words.proofs.Laws.{two_puts}
 use Rattle.blocks.specs.Block.{range_size}
 use Rattle.writer.specs.Write.{range_bytes}
-use borrow.Author.Rules.{rules}
 use Rattle.writer.proofs.put_range.Goals as goal
 
 pub put_u64-requires : goal.put_u64-requires

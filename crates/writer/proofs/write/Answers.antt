@@ -1,12 +1,11 @@
 -- `writer::write` meets its contract. Assumes nothing.
 use native.Mathlib.Omega.{arith}
 use Rattle.writer.specs.Write.{write_size}
-use Rattle.writer.proofs.Writing.{Fits, answer_fits, untouched, all_written}
+use Rattle.writer.proofs.Writing.{answer_fits, untouched, all_written}
 use mathlib.Core.Path.{sym, ◌∙◌}
 use mathlib.Core.List.{map}
 use lib.ListN.{length, length-map}
 use lib.Ieee.{to_bits, binary64}
-use borrow.Author.Rules.{rules}
 use Rattle.writer.proofs.write.Goals as goal
 
 -- of an answer of n bytes, `answer_fits`: the values are few enough, n is the block length, and the output has room

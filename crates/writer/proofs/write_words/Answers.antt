@@ -1,10 +1,9 @@
 -- `writer::write_words` meets its contract. Assumes nothing.
 use native.Mathlib.Omega.{arith}
 use Rattle.writer.specs.Write.{write_size}
-use Rattle.writer.proofs.Writing.{Fits, answer_fits, untouched, all_written}
+use Rattle.writer.proofs.Writing.{answer_fits, untouched, all_written}
 use mathlib.Core.Path.{refl, sym, ◌∙◌}
 use lib.ListN.{length}
-use borrow.Author.Rules.{rules}
 use Rattle.writer.proofs.write_words.Goals as goal
 
 -- of an answer of n bytes, `answer_fits`: the values are few enough, n is the block length, and the output has room

@@ -8,7 +8,6 @@ use Rattle.common.proofs.Texts.{run_at_within}
 use Rattle.texts.specs.Read.{id_word, found_at, read_as}
 use Rattle.texts.specs.declared.read.TextId.{TextId}
 use Rattle.texts.specs.declared.read.TextRead.TheVariants.{Found}
-use borrow.Author.Rules.{rules}
 use Rattle.texts.proofs.read.read_as.Goals as goal
 
 -- the run is that of the id's block
