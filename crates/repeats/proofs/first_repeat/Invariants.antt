@@ -1,9 +1,6 @@
 -- first_repeat.Lts
 use Prim.Native.Nat.{◌-◌}
 use Rattle.repeats.specs.Scan.{FirstRepeat}
-use Rattle.repeats.proofs.Chunks.{first_none, first_more}
-use Rattle.repeats.proofs.Firsts.{first_found}
-use borrow.Author.Rules.{rules}
 use Rattle.repeats.proofs.first_repeat.Given as goal
 
 abbrev pub invariant-loop-start : goal.invariant-loop-start

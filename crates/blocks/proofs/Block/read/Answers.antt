@@ -6,16 +6,12 @@ use Rattle.blocks.specs.declared.Parsed.TheVariants.{Whole}
 use Rattle.blocks.proofs.Looking.{seen_open, seen_cut, seen_room}
 use borrow.Author.Rules.{rules}
 use Rattle.blocks.proofs.Block.read.Goals as goal
-use Rattle.blocks.proofs.Block.read.Goals.{In-Open}
-
-open_is : (c : In-Open) → seen c.args.image.now c.args.at ≡ Open c.in-Open.view
-open_is c = sym c.look.ensures ∙ c.in-Open.is
 
 pub assembled-requires : goal.assembled-requires
-assembled-requires c = let e = open_is c.before in (seen_room _ _ _ e, e)
+assembled-requires c = let e = (sym c.look.ensures ∙ c.in-Open.is) in (seen_room _ _ _ e, e)
 
 pub returns-in-Open : goal.returns-in-Open
-returns-in-Open c = ap Whole c.assembled.ensures ∙ sym (seen_open _ _ _ (open_is c.before.before)).whole
+returns-in-Open c = ap Whole c.assembled.ensures ∙ sym (seen_open _ _ _ (sym c.look.ensures ∙ c.in-Open.is)).whole
 
 pub returns-in-Cut : goal.returns-in-Cut
 returns-in-Cut c = sym (seen_cut _ _ (sym c.look.ensures ∙ c.in-Cut.is))

@@ -1,4 +1,4 @@
--- write.holds_zero.Lts
+-- The loop of `texts::write::holds_zero`: before each turn the bytes from i on are still to be looked at. Assumes nothing.
 use mathlib.Core.Path.{◌≡◌, refl, sym, ap, ◌∙◌}
 use mathlib.Core.Bool.{Bool, true, false, ◌||◌}
 use mathlib.Core.List.{List}

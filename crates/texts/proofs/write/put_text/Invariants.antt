@@ -1,4 +1,4 @@
--- write.put_text.Lts
+-- The loop of `texts::write::put_text`: before each turn the bytes from i on are still to be put. Assumes nothing.
 use mathlib.Core.Path.{◌≡◌, refl, sym, ap, ◌∙◌}
 use Prim.Native.Nat.{ℕ, suc, ◌+◌, ◌-◌, ◌≤◌}
 use native.Mathlib.Numerals.{add-one}
