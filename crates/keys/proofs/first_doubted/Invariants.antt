@@ -1,4 +1,4 @@
--- first_doubted.Lts
+-- The loops of `keys::first_doubted`: what stays true from turn to turn, and the measure. Assumes nothing.
 use mathlib.Core.Path.{◌≡◌}
 use Prim.Native.Nat.{◌-◌, ◌≤◌}
 use Rattle.repeats.specs.Repeats.{first_of}

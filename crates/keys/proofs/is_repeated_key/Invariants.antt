@@ -1,4 +1,4 @@
--- is_repeated_key.Lts
+-- The loops of `keys::is_repeated_key`: what stays true from turn to turn, and the measure. Assumes nothing.
 use mathlib.Core.Path.{◌≡◌}
 use Prim.Native.Nat.{◌-◌, ◌≤◌}
 use Rattle.keys.specs.Keys.{key_among}

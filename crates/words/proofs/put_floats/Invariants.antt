@@ -1,4 +1,4 @@
--- put_floats.Lts
+-- The loops of `words::put_floats`: what stays true from turn to turn, and the measure. Assumes nothing.
 use borrow.Author.Rules.{rules}
 use Prim.Native.Nat.{◌-◌, ◌<◌, ◌≤◌}
 use native.Mathlib.Omega.{arith}

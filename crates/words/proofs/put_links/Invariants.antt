@@ -1,4 +1,4 @@
--- put_links.Lts
+-- The loops of `words::put_links`: what stays true from turn to turn, and the measure. Assumes nothing.
 use borrow.Author.Rules.{rules}
 use Prim.Native.Nat.{◌-◌}
 use lib.ListN.{length}

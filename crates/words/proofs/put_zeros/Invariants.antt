@@ -1,4 +1,4 @@
--- put_zeros.Lts
+-- The loops of `words::put_zeros`: what stays true from turn to turn, and the measure. Assumes nothing.
 use mathlib.Core.Path.{◌≡◌, refl, ap, ◌∙◌}
 use mathlib.Core.List.{List}
 use Prim.Native.Nat.{ℕ, ◌+◌, ◌-◌, ◌≤◌}

@@ -1,4 +1,4 @@
--- text.text_end.Lts
+-- The loops of `common::text::text_end`: what stays true from turn to turn, and the measure. Assumes nothing.
 use borrow.Author.Rules.{rules}
 use mathlib.Core.Path.{◌≡◌, refl, ap}
 use Prim.Native.Nat.{ℕ, ◌+◌, ◌-◌, ◌≤◌}
