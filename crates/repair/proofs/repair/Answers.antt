@@ -1,15 +1,12 @@
 -- `repair::repair` meets its contract. Assumes nothing.
-use mathlib.Core.Path.{◌≡◌, sym, ap, ◌∙◌}
+use mathlib.Core.Path.{sym, ap, ◌∙◌}
 use mathlib.Core.Logic.{⊎_elim}
 use mathlib.Core.List.{List}
 use Prim.Native.Nat.{ℕ}
 use native.Mathlib.Omega.{arith}
-use Rattle.blocks.specs.Block.{parsed_for_repair}
-use Rattle.blocks.specs.declared.Parsed.TheVariants.{Whole, Refused}
 use Rattle.common.specs.Written.{holding}
 use Rattle.repair.specs.Repair.{refused_line}
 use Rattle.repair.proofs.Reading.{refused_with, too_long, fitting}
-use borrow.Author.Rules.{rules}
 use Rattle.repair.proofs.repair.Goals as goal
 
 pub returns-then-input-gt-MOST : goal.returns-then-input-gt-MOST

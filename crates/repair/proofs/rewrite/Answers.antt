@@ -10,7 +10,6 @@ use Rattle.blocks.specs.declared.Block.{Block}
 use Rattle.blocks.specs.declared.Parsed.TheVariants.{Whole}
 use Rattle.repair.proofs.Holding.{rewriting}
 use Rattle.repair.proofs.Reading.{references_fit, values_fit, no_padding}
-use borrow.Author.Rules.{rules}
 use Rattle.repair.proofs.rewrite.Goals as goal
 
 -- so many references and values lie in 30,000 bytes

@@ -1,9 +1,6 @@
 -- `repair::say` meets its contract. Assumes nothing.
 use mathlib.Core.Path.{refl, sym, ◌∙◌}
-use lib.ListN.{length}
-use lib.Seq.{take-length}
 use Rattle.common.proofs.Holding.{none_held, all_held}
-use borrow.Author.Rules.{rules}
 use Rattle.repair.proofs.say.Goals as goal
 
 pub returns-then-out-line : goal.returns-then-out-line
