@@ -16,7 +16,7 @@ returns-then-named-is_width c =
     let asked = ap₂ ◌&&◌ (sym c.is_edition-named.ensures) (sym c.is_width.ensures) ∙ c.if-named-is_width.true in
     let is = both (is_edition s.edition) (is_width s.width) asked in
     c.apply_in.ensures
-    ∙ ap (λ (m : Mode). applying m s.image.now s.address s.limit s.value s.text.now s.out.now) c.before.before.before.before.Mode-of.ensures
+    ∙ ap (λ (m : Mode). applying m s.image.now s.address s.limit s.value s.text.now s.out.now) c.mode_of.ensures
     ∙ sym (mode_taken s.image.now s.address s.limit s.text.now s.out.now s.edition s.width s.value is.0 is.1)
 
 pub returns-else-named-is_width : goal.returns-else-named-is_width

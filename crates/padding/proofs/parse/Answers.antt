@@ -7,7 +7,6 @@ use Rattle.blocks.specs.Block.{parsed}
 use Rattle.blocks.specs.declared.Block.{Block}
 use Rattle.blocks.specs.declared.Parsed.TheVariants.{Whole}
 use Rattle.padding.specs.Kept.{padded, keeping, parsed_in}
-use borrow.Author.Rules.{rules}
 use Rattle.padding.proofs.parse.Goals as goal
 
 -- what was parsed is the block, and the mode decides what becomes of it

@@ -1,41 +1,31 @@
 -- `padding::with_its_padding` meets its contract. Assumes nothing.
 use native.Mathlib.Omega.{arith}
-use Prim.Native.Nat.{◌+◌, ◌≤◌}
-use lib.ListN.{length}
 use Rattle.padding.specs.Kept.{read_end}
 use Rattle.padding.proofs.Keeping.{end_fits, end_behind, kept_whole, kept_short}
-use borrow.Author.Rules.{rules}
 use Rattle.padding.proofs.with_its_padding.Goals as goal
-use Rattle.padding.proofs.with_its_padding.Goals.{Start}
 
--- the bytes read end in the image, and behind the header
-fits : (s : Start) → read_end s.args.block ≤ length s.args.image.now
-fits s = end_fits s.args.image.now s.args.address s.args.block s.requires
-
-behind : (s : Start) → s.args.address + 64 ≤ read_end s.args.block
-behind s = end_behind s.args.image.now s.args.address s.args.block s.requires
-
+-- the bytes read end in the image (`end_fits`), and behind the header (`end_behind`)
 pub overflow_add-end : goal.overflow_add-end
 unfolding read_end
-overflow_add-end c = record { fits = omega (arith, fits c.before.before.before.before) }
+overflow_add-end c = record { fits = omega (arith, end_fits c.args.image.now c.args.address c.args.block c.requires) }
 
 pub overflow_sub-end : goal.overflow_sub-end
 unfolding read_end
-overflow_sub-end c = omega (arith, behind c.before.before.before.before)
+overflow_sub-end c = omega (arith, end_behind c.args.image.now c.args.address c.args.block c.requires)
 
 pub overflow_sub-image : goal.overflow_sub-image
 unfolding read_end
-overflow_sub-image c = omega (arith, fits c.before.before.before.before.before)
+overflow_sub-image c = omega (arith, end_fits c.args.image.now c.args.address c.args.block c.requires)
 
 pub overflow_add-address : goal.overflow_add-address
 unfolding read_end
 overflow_add-address c =
-    omega (arith, fits c.before.before.before.before.before.before, behind c.before.before.before.before.before.before)
+    omega (arith, end_fits c.args.image.now c.args.address c.args.block c.requires, end_behind c.args.image.now c.args.address c.args.block c.requires)
 
 pub u32_at-reserved-requires : goal.u32_at-reserved-requires
 unfolding read_end
 u32_at-reserved-requires c =
-    omega (arith, fits c.before.before.before.before.before.before, behind c.before.before.before.before.before.before)
+    omega (arith, end_fits c.args.image.now c.args.address c.args.block c.requires, end_behind c.args.image.now c.args.address c.args.block c.requires)
 
 pub returns-then-excess-image : goal.returns-then-excess-image
 unfolding read_end

@@ -1,8 +1,8 @@
 -- `repair::gather` meets its contract. The words before the i-th are gathered. Assumes nothing.
-use mathlib.Core.Path.{◌≡◌, refl, subst, ap, ◌∙◌}
-use Prim.Native.Nat.{ℕ, ◌-◌, ◌≤◌}
+use mathlib.Core.Path.{◌≡◌, refl, subst}
+use Prim.Native.Nat.{ℕ}
 use native.Mathlib.Omega.{arith}
-use lib.ListN.{length, take}
+use lib.ListN.{take}
 use Rattle.words.specs.Words.{words}
 use borrow.Author.Rules.{rules}
 use Rattle.repair.proofs.Gathering.{gathered}

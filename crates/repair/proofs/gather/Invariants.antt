@@ -1,11 +1,8 @@
--- gather.Lts
-use mathlib.Core.Path.{◌≡◌, refl, subst, ap, ◌∙◌}
-use Prim.Native.Nat.{ℕ, ◌-◌, ◌≤◌}
-use native.Mathlib.Omega.{arith}
+-- The loop of `repair::gather`: the words before the i-th are gathered. Assumes nothing.
+use mathlib.Core.Path.{◌≡◌}
+use Prim.Native.Nat.{◌-◌, ◌≤◌}
 use lib.ListN.{length, take}
 use Rattle.words.specs.Words.{words}
-use borrow.Author.Rules.{rules}
-use Rattle.repair.proofs.Gathering.{gathered}
 use Rattle.repair.proofs.gather.Given as goal
 
 abbrev pub invariant-loop-i : goal.invariant-loop-i

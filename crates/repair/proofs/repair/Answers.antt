@@ -1,50 +1,35 @@
 -- `repair::repair` meets its contract. Assumes nothing.
-use mathlib.Core.Path.{◌≡◌, sym, ap, ◌∙◌}
+use mathlib.Core.Path.{sym, ap, ◌∙◌}
 use mathlib.Core.Logic.{⊎_elim}
 use mathlib.Core.List.{List}
 use Prim.Native.Nat.{ℕ}
 use native.Mathlib.Omega.{arith}
-use Rattle.blocks.specs.Block.{parsed_for_repair}
-use Rattle.blocks.specs.declared.Parsed.TheVariants.{Whole, Refused}
 use Rattle.common.specs.Written.{holding}
 use Rattle.repair.specs.Repair.{refused_line}
 use Rattle.repair.proofs.Reading.{refused_with, too_long, fitting}
-use borrow.Author.Rules.{rules}
 use Rattle.repair.proofs.repair.Goals as goal
-use Rattle.repair.proofs.repair.Goals.{In-Refused, In-Whole}
-
--- TODO slice-aggregate-say : tie.Need-slice-aggregate-say
--- slice-aggregate-say c = search rules
-
--- the block, and the refusal, that parsing gave
-whole : (c : In-Whole)
-    → parsed_for_repair c.args.input.now 0 ≡ Whole c.in-Whole.block
-whole c = sym c.parse_for_repair.ensures ∙ c.in-Whole.is
-
-refused : (c : In-Refused) → parsed_for_repair c.args.input.now 0 ≡ Refused c.in-Refused.r
-refused c = sym c.parse_for_repair.ensures ∙ c.in-Refused.is
 
 pub returns-then-input-gt-MOST : goal.returns-then-input-gt-MOST
 returns-then-input-gt-MOST c =
     c.say.ensures ∙ ap (λ (p : List ℕ). holding p c.args.out.now) (sym (too_long c.args.input.now c.if-input-gt-MOST.true))
 
 pub rewrite-requires : goal.rewrite-requires
-rewrite-requires c = (c.if-input-gt-MOST.false, whole c.before.before)
+rewrite-requires c = (c.if-input-gt-MOST.false, sym c.parse_for_repair.ensures ∙ c.in-Whole.is)
 
 pub say_refused-requires : goal.say_refused-requires
 say_refused-requires c =
     let number = c.number.ensures in
     ⊎_elim (λ one. omega (arith, one, number)) (λ more. ⊎_elim (λ two. omega (arith, two, number)) (λ four. omega (arith, four, number)) more)
-    (refused_with _ 0 _ (refused c.before.before.before))
+    (refused_with _ 0 _ (sym c.parse_for_repair.ensures ∙ c.in-Refused.is))
 
 pub returns-in-Whole : goal.returns-in-Whole
 returns-in-Whole c =
     c.rewrite.ensures
-    ∙ ap (λ (p : List ℕ). holding p c.args.out.now) (sym (fitting c.args.input.now c.if-input-gt-MOST.false _ (whole c.before.before.before.before.before)))
+    ∙ ap (λ (p : List ℕ). holding p c.args.out.now) (sym (fitting c.args.input.now c.if-input-gt-MOST.false _ (sym c.parse_for_repair.ensures ∙ c.in-Whole.is)))
 
 pub returns-in-Refused : goal.returns-in-Refused
 returns-in-Refused c =
     let out = c.args.out.now in
     c.say_refused.ensures
     ∙ ap (λ (n : ℕ). holding (refused_line n) out) c.number.ensures
-    ∙ ap (λ (p : List ℕ). holding p out) (sym (fitting c.args.input.now c.if-input-gt-MOST.false _ (refused c.before.before.before.before.before.before)))
+    ∙ ap (λ (p : List ℕ). holding p out) (sym (fitting c.args.input.now c.if-input-gt-MOST.false _ (sym c.parse_for_repair.ensures ∙ c.in-Refused.is)))

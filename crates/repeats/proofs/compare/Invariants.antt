@@ -1,4 +1,4 @@
--- compare.Lts
+-- The loops of `repeats::compare`: what stays true from turn to turn, and the measure. Assumes nothing.
 use Prim.Native.Nat.{◌-◌, ◌≤◌}
 use lib.ListN.{length}
 use Rattle.repeats.specs.Scan.{in_common, run_text}

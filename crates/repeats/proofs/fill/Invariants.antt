@@ -1,4 +1,4 @@
--- fill.Lts
+-- The loops of `repeats::fill`: what stays true from turn to turn, and the measure. Assumes nothing.
 use mathlib.Core.Path.{◌≡◌}
 use Prim.Native.Nat.{◌+◌, ◌-◌, ◌≤◌}
 use lib.ListN.{length}

@@ -1,4 +1,4 @@
--- first_repeat.Lts
+-- The loops of `repeats::first_repeat`: what stays true from turn to turn, and the measure. Assumes nothing.
 use Prim.Native.Nat.{◌-◌}
 use Rattle.repeats.specs.Scan.{FirstRepeat}
 use Rattle.repeats.proofs.first_repeat.Given as goal

@@ -1,4 +1,4 @@
--- hash_of.Lts
+-- The loops of `repeats::hash_of`: what stays true from turn to turn, and the measure. Assumes nothing.
 use mathlib.Core.Path.{◌≡◌}
 use Prim.Native.Nat.{◌-◌, ◌≤◌, ◌<◌}
 use lib.ListN.{length}

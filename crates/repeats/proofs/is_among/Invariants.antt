@@ -1,4 +1,4 @@
--- is_among.Lts
+-- The loops of `repeats::is_among`: what stays true from turn to turn, and the measure. Assumes nothing.
 use Prim.Native.Nat.{◌-◌, ◌≤◌}
 use Rattle.repeats.specs.Scan.{NoneIs}
 use Rattle.repeats.proofs.is_among.Given as goal

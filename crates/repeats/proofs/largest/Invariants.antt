@@ -1,4 +1,4 @@
--- largest.Lts
+-- The loops of `repeats::largest`: what stays true from turn to turn, and the measure. Assumes nothing.
 use Prim.Native.Nat.{◌-◌, ◌≤◌, ◌<◌}
 use Rattle.repeats.proofs.largest.Given as goal
 

@@ -3,7 +3,6 @@ use mathlib.Core.List.{[], ◌∷◌}
 use Rattle.words.specs.Words.{bytes2}
 use Rattle.words.proofs.Laws.{five_puts}
 use Rattle.writer.specs.Write.{field_bytes}
-use borrow.Author.Rules.{rules}
 use Rattle.writer.proofs.put_fields.Goals as goal
 
 pub returns : goal.returns

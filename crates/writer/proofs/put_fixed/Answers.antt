@@ -2,7 +2,6 @@
 use Rattle.words.specs.Words.{bytes8}
 use Rattle.words.proofs.Laws.{four_puts}
 use Rattle.writer.specs.Write.{fixed_bytes}
-use borrow.Author.Rules.{rules}
 use Rattle.writer.proofs.put_fixed.Goals as goal
 
 pub returns : goal.returns

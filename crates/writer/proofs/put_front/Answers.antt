@@ -1,7 +1,6 @@
 -- `writer::put_front` meets its contract. Assumes nothing.
 use native.Mathlib.Omega.{arith}
 use Rattle.writer.proofs.Writing.{front_parts}
-use borrow.Author.Rules.{rules}
 use Rattle.writer.proofs.put_front.Goals as goal
 
 pub returns : goal.returns

@@ -8,7 +8,6 @@ use Rattle.words.specs.Words.{bytes8, put}
 use Rattle.words.proofs.Laws.{two_puts}
 use Rattle.blocks.specs.Block.{range_size}
 use Rattle.writer.specs.Write.{range_bytes}
-use borrow.Author.Rules.{rules}
 use Rattle.writer.proofs.put_range.Goals as goal
 
 pub put_u64-requires : goal.put_u64-requires
@@ -24,7 +23,7 @@ returns-then-block c =
     let there : range_bytes b b.ranged ≡ range_bytes b true = ap (range_bytes b) c.if-block.true in
     let low = kept_bits b.minimum b.minword in
     let high = kept_bits b.maximum b.maxword in
-    let first = c.put_u64.new.0 in
+    let first = c.put_u64.new.out in
     rw there
     (two_puts (bytes8 low) (bytes8 high) a.out.now a.at
     (c.put_u64.ensures ∙ ap (λ (w : ℕ). put a.out.now a.at (bytes8 w)) c.kept_bits.ensures)

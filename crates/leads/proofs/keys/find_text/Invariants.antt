@@ -1,4 +1,4 @@
--- keys.find_text.Lts
+-- The loops of `leads::keys::find_text`: what stays true from turn to turn, and the measure. Assumes nothing.
 use mathlib.Core.Path.{◌≡◌}
 use Prim.Native.Nat.{◌-◌, ◌≤◌}
 use Rattle.leads.specs.Keys.{first_text}

@@ -1,4 +1,4 @@
--- keys.is_same.Lts
+-- The loops of `leads::keys::is_same`: what stays true from turn to turn, and the measure. Assumes nothing.
 use mathlib.Core.Path.{◌≡◌}
 use Prim.Native.Nat.{◌+◌, ◌-◌, ◌≤◌}
 use lib.ListN.{length, drop}

@@ -1,4 +1,4 @@
--- paste.copy.Lts
+-- The loops of `pieces::paste::copy`: what stays true from turn to turn, and the measure. Assumes nothing.
 use mathlib.Core.Path.{◌≡◌}
 use Prim.Native.Nat.{◌+◌, ◌-◌, ◌≤◌}
 use native.Mathlib.Omega.{arith}

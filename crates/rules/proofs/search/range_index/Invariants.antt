@@ -1,4 +1,4 @@
--- search.range_index.Lts
+-- The loops of `rules::search::range_index`: what stays true from turn to turn, and the measure. Assumes nothing.
 use mathlib.Core.Path.{◌≡◌}
 use Prim.Native.Nat.{◌+◌, ◌-◌, ◌*◌, ◌≤◌}
 use Rattle.rules.specs.Values.{values}

@@ -1,4 +1,4 @@
--- table_lookup.apply_range_value.Lts
+-- The loops of `rules::table_lookup::apply_range_value`: what stays true from turn to turn, and the measure. Assumes nothing.
 use mathlib.Core.Path.{◌≡◌}
 use Prim.Native.Nat.{◌+◌, ◌*◌, ◌%◌, ◌≤◌}
 use lib.ListN.{length}

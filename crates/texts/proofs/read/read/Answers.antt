@@ -2,7 +2,6 @@
 use mathlib.Core.Path.{sym, ◌∙◌}
 use Rattle.common.proofs.Headers.{inside_fits}
 use Rattle.texts.proofs.Reading.{read_outside, read_inside}
-use borrow.Author.Rules.{rules}
 use Rattle.texts.proofs.read.read.Goals as goal
 
 pub read_at-requires : goal.read_at-requires

@@ -4,7 +4,6 @@ use borrow.Author.Tests.{eq-eqb, ne_eqb}
 use Rattle.common.specs.Header.{has_id}
 use Rattle.texts.specs.declared.read.TextId.TheVariants.{Tx, Md}
 use Rattle.texts.proofs.Reading.{read_as_id, read_other}
-use borrow.Author.Rules.{rules}
 use Rattle.texts.proofs.read.read_at.Goals as goal
 
 pub returns-then-word : goal.returns-then-word

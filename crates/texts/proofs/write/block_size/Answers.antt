@@ -1,7 +1,6 @@
 -- `texts::write::block_size` meets its contract. Assumes nothing.
 use mathlib.Core.Path.{sym}
 use Rattle.texts.proofs.Writing.{size_is}
-use borrow.Author.Rules.{rules}
 use Rattle.texts.proofs.write.block_size.Goals as goal
 
 pub returns : goal.returns

@@ -2,12 +2,10 @@
 use mathlib.Core.Path.{◌≡◌, refl, sym, ap, ◌∙◌}
 use mathlib.Core.Bool.{Bool, true, false, ◌||◌}
 use mathlib.Core.List.{List}
-use Prim.Native.Nat.{◌-◌, ◌≤◌}
 use native.Mathlib.Omega.{arith}
-use lib.ListN.{length, drop, drop_of_length-le}
+use lib.ListN.{drop_of_length-le}
 use Rattle.texts.specs.Write.{holds_zero}
 use Rattle.texts.proofs.Writing.{zero_found}
-use borrow.Author.Rules.{rules}
 use Rattle.texts.proofs.write.holds_zero.Goals as goal
 
 -- nothing found is nothing to add

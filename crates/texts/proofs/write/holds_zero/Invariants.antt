@@ -1,13 +1,9 @@
--- write.holds_zero.Lts
-use mathlib.Core.Path.{◌≡◌, refl, sym, ap, ◌∙◌}
-use mathlib.Core.Bool.{Bool, true, false, ◌||◌}
-use mathlib.Core.List.{List}
+-- The loop of `texts::write::holds_zero`: before each turn the bytes from i on are still to be looked at. Assumes nothing.
+use mathlib.Core.Path.{◌≡◌}
+use mathlib.Core.Bool.{◌||◌}
 use Prim.Native.Nat.{◌-◌, ◌≤◌}
-use native.Mathlib.Omega.{arith}
-use lib.ListN.{length, drop, drop_of_length-le}
+use lib.ListN.{length, drop}
 use Rattle.texts.specs.Write.{holds_zero}
-use Rattle.texts.proofs.Writing.{zero_found}
-use borrow.Author.Rules.{rules}
 use Rattle.texts.proofs.write.holds_zero.Given as goal
 
 abbrev pub invariant-loop-i : goal.invariant-loop-i

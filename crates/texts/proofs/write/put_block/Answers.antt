@@ -2,7 +2,6 @@
 use native.Mathlib.Omega.{arith}
 use lib.ListN.{length}
 use Rattle.texts.proofs.Writing.{size_least, block_put}
-use borrow.Author.Rules.{rules}
 use Rattle.texts.proofs.write.put_block.Goals as goal
 
 pub put_header-requires : goal.put_header-requires

@@ -1,9 +1,9 @@
 -- `texts::write::put_text` meets its contract. Before each turn the bytes from i on are still to be put. Assumes nothing.
 use mathlib.Core.Path.{◌≡◌, refl, sym, ap, ◌∙◌}
-use Prim.Native.Nat.{ℕ, suc, ◌+◌, ◌-◌, ◌≤◌}
+use Prim.Native.Nat.{ℕ, suc, ◌+◌}
 use native.Mathlib.Numerals.{add-one}
 use native.Mathlib.Omega.{arith}
-use lib.ListN.{length, get_or, drop, set, drop_of_length-le}
+use lib.ListN.{get_or, drop, set, drop_of_length-le}
 use lib.Seq.{drop-cons}
 use Rattle.words.specs.Words.{put}
 use borrow.Author.Rules.{rules}

@@ -2,11 +2,9 @@
 use mathlib.Core.Path.{◌≡◌, sym, ◌∙◌}
 use mathlib.Core.Bool.{true, false}
 use native.Mathlib.Omega.{arith}
-use lib.ListN.{length}
 use Rattle.common.proofs.Holding.{none_held, put_held}
 use Rattle.texts.specs.Write.{text_block}
 use Rattle.texts.proofs.Writing.{length_text_block, zero_refused, clean_held}
-use borrow.Author.Rules.{rules}
 use Rattle.texts.proofs.write.write.Goals as goal
 
 pub returns-then-holds_zero : goal.returns-then-holds_zero
