@@ -7,7 +7,6 @@ use Rattle.conversion.specs.declared.logic.Applied.{Applied}
 use Rattle.steps.specs.declared.mode.Mode.{Mode}
 use Rattle.modes.specs.Asked.{is_edition, is_width, refusal_of}
 use Rattle.modes.proofs.Laws.{both, mode_taken, mode_refused}
-use borrow.Author.Rules.{rules}
 use Rattle.modes.proofs.apply_at.Goals as goal
 
 pub returns-then-named-is_width : goal.returns-then-named-is_width

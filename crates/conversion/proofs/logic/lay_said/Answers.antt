@@ -3,7 +3,6 @@ use mathlib.Core.Path.{subst}
 use native.Mathlib.Omega.{arith}
 use Rattle.pieces.specs.Did.{SaidIn}
 use Rattle.conversion.proofs.Settling.{laid_none}
-use borrow.Author.Rules.{rules}
 use borrow.Enum.Refused.{opened}
 use Rattle.conversion.proofs.logic.lay_said.Goals as goal
 

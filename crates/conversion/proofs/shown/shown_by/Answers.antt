@@ -1,11 +1,8 @@
 -- `conversion::shown::shown_by` meets its contract. Assumes nothing.
-use mathlib.Core.Path.{◌≡◌, sym, ◌∙◌}
-use Rattle.blocks.specs.View.{seen}
-use Rattle.blocks.specs.declared.view.Seen.TheVariants.{Open}
+use mathlib.Core.Path.{sym, ◌∙◌}
 use Rattle.steps.proofs.Opened.{seen_fits}
 use Rattle.leads.specs.declared.lead.Lead.TheVariants.{Words, Nested, Nil, Elsewhere}
 use Rattle.conversion.proofs.Showing.{shown_cut, lead_within, shown_other, shown_ten}
-use borrow.Author.Rules.{rules}
 use Rattle.conversion.proofs.shown.shown_by.Goals as goal
 
 pub translate-requires : goal.translate-requires

@@ -1,8 +1,6 @@
 -- `conversion::shown::translate` meets its contract. Assumes nothing.
 use mathlib.Core.Path.{sym, ap, subst, ◌∙◌}
 use Rattle.conversion.specs.Shown.{ShownIn, showing}
-use Rattle.conversion.specs.declared.shown.Shown.TheVariants.{Part}
-use borrow.Author.Rules.{rules}
 use Rattle.conversion.proofs.shown.translate.Goals as goal
 
 -- the part that is shown lies in the image

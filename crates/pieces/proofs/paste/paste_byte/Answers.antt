@@ -1,6 +1,5 @@
 -- `pieces::paste::paste_byte` meets its contract. Assumes nothing.
-use mathlib.Core.List.{List, [], ◌∷◌}
-use Prim.Native.Nat.{ℕ}
+use mathlib.Core.List.{[], ◌∷◌}
 use native.Mathlib.Omega.{arith}
 use Rattle.pieces.specs.Write.{Wrote}
 use Rattle.pieces.proofs.Laws.{one, past}

@@ -2,7 +2,6 @@
 use mathlib.Core.Path.{sym, ap, ◌∙◌}
 use Rattle.conversion.specs.Entry.{refusal_number}
 use Rattle.conversion.proofs.Refusals.{none_refused}
-use borrow.Author.Rules.{rules}
 use borrow.Enum.Refused.{opened}
 use Rattle.conversion.proofs.logic.Answer.refusal.Goals as goal
 
