@@ -158,7 +158,7 @@ shell_example() { # EXAMPLE
     grep -v '^#' "$1" | while IFS= read -r line; do transcript "$line"; done
 }
 
-[ -f "$archive" ] || { echo "face: no archive at $archive; rt staticlib gateway makes it"; exit 1; }
+[ -f "$archive" ] || { echo "face: no archive at $archive; tools/archive makes it"; exit 1; }
 mkdir -p "$made"
 header_has_example
 blocks_are_from c examples/convert.c examples/rewrite.c examples/name.c examples/invert.c

@@ -24,7 +24,7 @@
  *         return 0;
  *     }
  *
- * It prints "text Gear = Low|PTO". In the project's root `rt staticlib gateway` makes the archive, and
+ * It prints "text Gear = Low|PTO". In the project's root `tools/archive` makes the archive, and
  *
  *     gcc -std=c11 -Iface/c example.c target/staticlib/libgateway.a -o example
  *

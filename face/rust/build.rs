@@ -55,7 +55,7 @@ fn main() {
     let archive = folder.join("libgateway.a");
     println!("cargo:rerun-if-changed={}", archive.display());
     if !archive.is_file() {
-        let help = format!("Run `rt staticlib gateway` in the project's root, or name the archive's folder in the variable {FOLDER}.");
+        let help = format!("Run `tools/archive` in the project's root, or name the archive's folder in the variable {FOLDER}.");
         complain(&[format!("no archive at {}", archive.display()), why, help]);
     }
     println!("cargo:rustc-link-search=native={}", folder.display());

@@ -15,7 +15,7 @@ use Rattle.blocks.specs.Block.{block_end, block_at, opened, parsed_for_repair, f
 use Rattle.blocks.specs.declared.Block.{Block}
 use Rattle.blocks.specs.declared.Parsed.TheVariants.{Whole, Refused}
 use Rattle.common.specs.declared.refusal.Refusal.{Refusal}
-use Rattle.common.specs.declared.refusal.Refusal.TheVariants.{Outside, NotConversion, Short, FewLinks}
+use Rattle.common.specs.declared.refusal.Refusal.TheVariants.{Short, FewLinks}
 
 module _ (img : List ℕ) (a : ℕ) where
   pub parsed_retired : retired img a ≡ true → parsed img a ≡ Refused (FewLinks a)

@@ -104,19 +104,19 @@ follows_bits Mdf420 b NoWord h = tt
 
 module _ (mode : Mode) (img t : List ℕ) (b : Block) (v : Value) where
   by_type : (k : ConversionType) → b.kind ≡ number_of_type k → Follows mode.edition b (typed mode img t (view_of b) v k)
-  by_type kind.Identity h = sane_numbered kind.Identity _ (taken v)
-  by_type kind.Linear h = sane_numbered kind.Linear _ (taken v)
-  by_type kind.Rational h = sane_numbered kind.Rational _ (taken v)
-  by_type kind.Formula h = sane_numbered kind.Formula _ (taken v)
-  by_type kind.TableInterpolated h = sane_numbered kind.TableInterpolated _ (taken v)
-  by_type kind.TableNearest h = sane_numbered kind.TableNearest _ (taken v)
-  by_type kind.RangeToValue h = sane_numbered kind.RangeToValue _ (taken v)
+  by_type kind.Identity h = sane_numbered kind.Identity (values img b.firstval b.valcount) (taken v)
+  by_type kind.Linear h = sane_numbered kind.Linear (values img b.firstval b.valcount) (taken v)
+  by_type kind.Rational h = sane_numbered kind.Rational (values img b.firstval b.valcount) (taken v)
+  by_type kind.Formula h = sane_numbered kind.Formula (values img b.firstval b.valcount) (taken v)
+  by_type kind.TableInterpolated h = sane_numbered kind.TableInterpolated (values img b.firstval b.valcount) (taken v)
+  by_type kind.TableNearest h = sane_numbered kind.TableNearest (values img b.firstval b.valcount) (taken v)
+  by_type kind.RangeToValue h = sane_numbered kind.RangeToValue (values img b.firstval b.valcount) (taken v)
   by_type kind.ValueToText h = refl
   by_type kind.RangeToText h = refl
   by_type kind.TextToValue h = sane_value img (view_of b) t (is_text_value v)
   by_type kind.TextToText h = sane_text img (view_of b) t (is_text_value v)
   by_type kind.BitGroups h = follows_bits mode.edition b (bits_of mode v) h
-  by_type (kind.Unknown n) h = sane_numbered (kind.Unknown n) _ (taken v)
+  by_type (kind.Unknown n) h = sane_numbered (kind.Unknown n) (values img b.firstval b.valcount) (taken v)
 
   pub step_follows : (a : ℕ) → opened img a ≡ Whole b → Follows mode.edition b (step_of mode img t a v)
   unfolding step_of seen

@@ -2,7 +2,7 @@
 --
 -- An image is one or more blocks in a row, from address 0 on; a comment names the addresses. A block has a zero reserved field, no range, and NIL
 -- unit, comment and inverse links; a text ends in one zero byte. Values are written by their 64 bits.
-use Rattle.std.specs.Prelude.{ℕ, ◌+◌, ◌*◌, Bool, true, false, List, [], ◌∷◌, ◌++◌, negsuc, Float, length, replicate}
+use Rattle.std.specs.Prelude.{ℕ, ◌+◌, ◌*◌, Bool, true, false, List, [], ◌∷◌, ◌++◌, negsuc, length, replicate}
 use Rattle.std.specs.Float.{nan, binary64}
 use Rattle.std.specs.Float.Ieee.{of_bits, to_bits}
 use Rattle.words.specs.Words.{bytes2, bytes4, bytes8, links}

@@ -5,7 +5,7 @@ use Prim.Native.Nat.{compare, Ordering}
 use native.Mathlib.Nat.{add-sub_cancel_left, pow-succ'}
 use lib.Dec.{is_le, compare_is_eq, nleb→lt}
 use lib.Count.{count_leading_zeros, leading_top}
-use lib.Ieee.{Float, nan, inf, fin, binary64, is_nan, nan_bits, low, nearest, odd, units, round, of_int, of_bits, to_bits, size, down}
+use lib.Ieee.{Float, nan, inf, fin, binary64, is_nan, nan_bits, nearest, odd, units, round, of_int, of_bits, to_bits, size, down}
 use lib.Ieee.Bits.{of_bits-to_bits, nan_bits_is}
 use lib.Ieee.Digits.{size-lt, size-le}
 use lib.Ieee.Exact.{HasValue}

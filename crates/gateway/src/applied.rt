@@ -9,8 +9,7 @@ use conversion::logic::apply;
 use faces::applied::{MdfApplied, applied_face};
 use rules::number::Value;
 
-#[unsafe(no_mangle)]
-pub extern "C" fn mdf_apply_unsigned(
+pub fn mdf_apply_unsigned(
     image: &[u8],
     address: u64,
     limit: u32,
@@ -22,8 +21,7 @@ pub extern "C" fn mdf_apply_unsigned(
     applied_face(apply(image, address, limit, Value::Unsigned(value), b"", out))
 }
 
-#[unsafe(no_mangle)]
-pub extern "C" fn mdf_apply_signed(
+pub fn mdf_apply_signed(
     image: &[u8],
     address: u64,
     limit: u32,
@@ -35,8 +33,7 @@ pub extern "C" fn mdf_apply_signed(
     applied_face(apply(image, address, limit, Value::Signed(value), b"", out))
 }
 
-#[unsafe(no_mangle)]
-pub extern "C" fn mdf_apply_float(
+pub fn mdf_apply_float(
     image: &[u8],
     address: u64,
     limit: u32,
@@ -48,8 +45,7 @@ pub extern "C" fn mdf_apply_float(
     applied_face(apply(image, address, limit, Value::Float(value), b"", out))
 }
 
-#[unsafe(no_mangle)]
-pub extern "C" fn mdf_apply_text(
+pub fn mdf_apply_text(
     image: &[u8],
     address: u64,
     limit: u32,
@@ -61,13 +57,7 @@ pub extern "C" fn mdf_apply_text(
     applied_face(apply(image, address, limit, Value::Text, text, out))
 }
 
-#[unsafe(no_mangle)]
-pub extern "C" fn mdf_apply_other(
-    image: &[u8],
-    address: u64,
-    limit: u32,
-    out: &mut [u8],
-) -> MdfApplied
+pub fn mdf_apply_other(image: &[u8], address: u64, limit: u32, out: &mut [u8]) -> MdfApplied
     ensures { face result out.new ≡ call_face (applying standard image.now address limit Other [] out.old) }
 {
     applied_face(apply(image, address, limit, Value::Other, b"", out))

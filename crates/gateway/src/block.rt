@@ -6,15 +6,13 @@ ghost use Rattle.faces.specs.Block.{parsed_face};
 
 use faces::block::{MdfParsed, parsed_face};
 
-#[unsafe(no_mangle)]
-pub extern "C" fn mdf_parse(image: &[u8], address: u64) -> MdfParsed
+pub fn mdf_parse(image: &[u8], address: u64) -> MdfParsed
     ensures { result ≡ parsed_face (parsed image.now address) }
 {
     parsed_face(padding::parse(image, address, false))
 }
 
-#[unsafe(no_mangle)]
-pub extern "C" fn mdf_parse_kept(image: &[u8], address: u64) -> MdfParsed
+pub fn mdf_parse_kept(image: &[u8], address: u64) -> MdfParsed
     ensures { result ≡ parsed_face (parsed_in true image.now address) }
 {
     parsed_face(padding::parse(image, address, true))

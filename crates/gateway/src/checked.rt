@@ -8,15 +8,13 @@ use conversion::shown::shown_for;
 use faces::checked::{MdfChecked, MdfShown, checked_face, shown_face};
 use tree::check;
 
-#[unsafe(no_mangle)]
-pub extern "C" fn mdf_check(image: &[u8], address: u64, limit: u32) -> MdfChecked
+pub fn mdf_check(image: &[u8], address: u64, limit: u32) -> MdfChecked
     ensures { result ≡ checked_face (checked image.now address limit) }
 {
     checked_face(check(image, address, limit))
 }
 
-#[unsafe(no_mangle)]
-pub extern "C" fn mdf_translate(image: &[u8], address: u64, limit: u32, question: &[u8]) -> MdfShown
+pub fn mdf_translate(image: &[u8], address: u64, limit: u32, question: &[u8]) -> MdfShown
     ensures { result ≡ shown_face (shown_for image.now address limit question.now) (length_of question.now) }
 {
     shown_face(shown_for(image, address, limit, question), question.len())

@@ -1,4 +1,5 @@
-// What C and Rust call: the public entries with C's layouts. Each function is total and cites the definition of its entry. See each module.
+// What C and Rust call: the public entries with C's layouts. Each function is total and cites the definition of its entry. The crate `gateway_c` exports
+// each under its own name. See each module.
 
 #![tactic(auto)]
 

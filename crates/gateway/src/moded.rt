@@ -8,8 +8,7 @@ use faces::applied::{MdfApplied, MdfMode, applied_face};
 use modes::apply_at;
 use rules::number::Value;
 
-#[unsafe(no_mangle)]
-pub extern "C" fn mdf_apply_mode_unsigned(
+pub fn mdf_apply_mode_unsigned(
     image: &[u8],
     address: u64,
     limit: u32,
@@ -32,8 +31,7 @@ pub extern "C" fn mdf_apply_mode_unsigned(
     ))
 }
 
-#[unsafe(no_mangle)]
-pub extern "C" fn mdf_apply_mode_signed(
+pub fn mdf_apply_mode_signed(
     image: &[u8],
     address: u64,
     limit: u32,
@@ -56,8 +54,7 @@ pub extern "C" fn mdf_apply_mode_signed(
     ))
 }
 
-#[unsafe(no_mangle)]
-pub extern "C" fn mdf_apply_mode_float(
+pub fn mdf_apply_mode_float(
     image: &[u8],
     address: u64,
     limit: u32,
@@ -80,8 +77,7 @@ pub extern "C" fn mdf_apply_mode_float(
     ))
 }
 
-#[unsafe(no_mangle)]
-pub extern "C" fn mdf_apply_mode_text(
+pub fn mdf_apply_mode_text(
     image: &[u8],
     address: u64,
     limit: u32,
@@ -104,8 +100,7 @@ pub extern "C" fn mdf_apply_mode_text(
     ))
 }
 
-#[unsafe(no_mangle)]
-pub extern "C" fn mdf_apply_mode_other(
+pub fn mdf_apply_mode_other(
     image: &[u8],
     address: u64,
     limit: u32,

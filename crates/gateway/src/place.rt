@@ -6,8 +6,7 @@ ghost use Rattle.faces.specs.Place.{place_face};
 use blocks::{Block, Parsed};
 use faces::place::{MdfWord, unread_face, word_face};
 
-#[unsafe(no_mangle)]
-pub extern "C" fn mdf_reference(image: &[u8], address: u64, index: u64) -> MdfWord
+pub fn mdf_reference(image: &[u8], address: u64, index: u64) -> MdfWord
     ensures { result ≡ place_face reference_of image.now address index }
 {
     match Block::parse(image, address) {
@@ -16,8 +15,7 @@ pub extern "C" fn mdf_reference(image: &[u8], address: u64, index: u64) -> MdfWo
     }
 }
 
-#[unsafe(no_mangle)]
-pub extern "C" fn mdf_value_word(image: &[u8], address: u64, index: u64) -> MdfWord
+pub fn mdf_value_word(image: &[u8], address: u64, index: u64) -> MdfWord
     ensures { result ≡ place_face value_word_of image.now address index }
 {
     match Block::parse(image, address) {

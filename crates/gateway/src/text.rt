@@ -10,15 +10,13 @@ use faces::written::{MdfWritten, written_face};
 use texts::read::read;
 use texts::write::write;
 
-#[unsafe(no_mangle)]
-pub extern "C" fn mdf_text_read(image: &[u8], address: u64) -> MdfText
+pub fn mdf_text_read(image: &[u8], address: u64) -> MdfText
     ensures { result ≡ text_face (reading image.now address) }
 {
     text_face(read(image, address))
 }
 
-#[unsafe(no_mangle)]
-pub extern "C" fn mdf_text_write(metadata: bool, text: &[u8], out: &mut [u8]) -> MdfWritten
+pub fn mdf_text_write(metadata: bool, text: &[u8], out: &mut [u8]) -> MdfWritten
     ensures { face_wrote result out.new ≡ writing_face (writing_text (id_of metadata) text.now out.old) }
 {
     written_face(write(id_of(metadata), text, out))

@@ -7,13 +7,7 @@ use faces::block::MdfBlock;
 use faces::written::{MdfWritten, record_of, written_face};
 use writer::write_words;
 
-#[unsafe(no_mangle)]
-pub extern "C" fn mdf_write(
-    block: MdfBlock,
-    refs: &[u64],
-    words: &[u64],
-    out: &mut [u8],
-) -> MdfWritten
+pub fn mdf_write(block: MdfBlock, refs: &[u64], words: &[u64], out: &mut [u8]) -> MdfWritten
     ensures { face_wrote result out.new ≡ writing_face (writing (record_of block) refs.now words.now out.old) }
 {
     written_face(write_words(record_of(block), refs, words, out))

@@ -90,7 +90,7 @@ module _ (img : List ℕ) (a limit : ℕ) (v : Value) (t out : List ℕ) where
       go : (c : Checked) → checked img a limit ≡ c → AsChecked c (applying mode img a limit v t out)
       go (Accepted n) e =
           let it = (demand_3 mode img a limit v t out).accepted n e in
-          (it.its-count, λ r p. ⊎_elim (λ seven. (omega (arith, seven), omega (arith, seven))) (λ eight. (omega (arith, eight), omega (arith, eight))) (it.refusals r p))
+          (it.its_count, λ r p. ⊎_elim (λ seven. (omega (arith, seven), omega (arith, seven))) (λ eight. (omega (arith, eight), omega (arith, eight))) (it.refusals r p))
       go (Unsound r) e = ap (λ (c : Checked). by_check c (λ n. settled n a (applied 21 mode img t a v) out) out) e
 
   -- the same of the entry that takes numbers

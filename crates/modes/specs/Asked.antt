@@ -1,6 +1,6 @@
 -- Applying in the mode that a caller asks for in two numbers: the edition of MDF (request [8]: "The caller now names the edition, 4.10 or 4.20") and
 -- the width of the signal (request [2]: "the caller gives the signal's width, 1 to 64, and only that many low bits reach the masks").
--- What the edition does is `groupedIn`, and what the width does is `bits_of`, both in `steps`. Assumes nothing: these are definitions.
+-- What the edition does is `grouped_in`, and what the width does is `bits_of`, both in `steps`. Assumes nothing: these are definitions.
 use Rattle.std.specs.Prelude.{ℕ, Bool, cond, ◌&&◌, ◌||◌, List, eqb, ltb, leb}
 use Rattle.common.specs.declared.refusal.Refusal.{Refusal}
 use Rattle.common.specs.declared.refusal.Refusal.TheVariants.{Width, Edition as WrongEdition}

@@ -42,7 +42,7 @@ first_range whole (low ∷ []) x = 0
 first_range whole [] x = 0
 
 -- range to text, as document 01 has it: n is half the length rounded down. Length 0, 1 or odd: index 0. Else the first range that holds x, or n.
--- Matched means index < n. The search decides by this index and this match: `same_index`, `same-match`
+-- Matched means index < n. The search decides by this index and this match: `same_index`, `same_match`
 unfoldable pub range_index : Bool → List Float → Float → ℕ
 range_index whole vs x = cond (eqb (length vs % 2) 1) 0 (first_range whole vs x)
 

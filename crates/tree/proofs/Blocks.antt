@@ -1,12 +1,12 @@
 -- What a block's visit meets, in the limited answer; and a block's references, one by one. Assumes nothing.
 use mathlib.Core.Path.{◌≡◌, sym, ap, ◌∙◌}
-use mathlib.Core.Bool.{Bool, true, false}
+use mathlib.Core.Bool.{true, false}
 use mathlib.Core.List.{List, [], ◌∷◌, ◌++◌}
 use Prim.Native.Nat.{ℕ, zero, suc, ◌+◌, ◌-◌, ◌*◌, ◌≤◌, ◌<◌}
 use native.Mathlib.Omega.{arith}
 use Rattle.words.specs.Words.{word64, words}
 use Rattle.common.specs.declared.refusal.Refusal.TheVariants.{Limit, Short, Deep, FewLinks}
-use Rattle.blocks.specs.Block.{ref_count, block_at, opened, few_links}
+use Rattle.blocks.specs.Block.{ref_count, block_at, few_links}
 use Rattle.blocks.specs.Place.{references}
 use Rattle.blocks.specs.View.{seen}
 use Rattle.blocks.specs.declared.Block.{Block}
@@ -14,7 +14,7 @@ use Rattle.blocks.specs.declared.Parsed.{Parsed}
 use Rattle.blocks.specs.declared.view.View.{View}
 use Rattle.blocks.specs.declared.view.Seen.TheVariants.{Open, Cut}
 use Rattle.blocks.proofs.Looking.{seen_open, seen_cut, seen_refs}
-use Rattle.tree.specs.Walk.{Walk, Fault, few, short, deep, stopped, walk_links, unless_few, unless_short, entered, classed, walk, fault_refusal, answer}
+use Rattle.tree.specs.Walk.{Walk, Fault, few, short, deep, stopped, walk_links, unless_short, entered, classed, walk, fault_refusal, answer}
 use Rattle.tree.specs.declared.Checked.TheVariants.{Unsound}
 use Rattle.tree.proofs.Answers.{answer_stopped, answer_full, answer_visit}
 

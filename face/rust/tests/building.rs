@@ -56,7 +56,7 @@ fn a_package_of_a_user() {
     for line in [
         format!("no archive at {folder}/elsewhere/libgateway.a\n"),
         format!("MDF_ARCHIVE_DIR is \"elsewhere\", counted from {folder}, where cargo was started.\n"),
-        "Run `rt staticlib gateway` in the project's root, or name the archive's folder in the variable MDF_ARCHIVE_DIR.\n".into(),
+        "Run `tools/archive` in the project's root, or name the archive's folder in the variable MDF_ARCHIVE_DIR.\n".into(),
     ] {
         assert!(complaint.contains(&line), "{line} in {complaint}");
     }

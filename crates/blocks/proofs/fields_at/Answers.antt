@@ -5,7 +5,6 @@ use native.Mathlib.Omega.{arith}
 use lib.ListN.{get_or}
 use Rattle.words.specs.Words.{word16}
 use Rattle.blocks.specs.Block.{fields_at}
-use borrow.Author.Rules.{rules}
 use Rattle.blocks.proofs.fields_at.Goals as goal
 
 pub returns : goal.returns

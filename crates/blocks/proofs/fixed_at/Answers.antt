@@ -3,7 +3,6 @@ use mathlib.Core.Path.{◌≡◌}
 use Prim.Native.Nat.{◌+◌}
 use native.Mathlib.Omega.{arith}
 use Rattle.blocks.specs.Block.{fixed_at}
-use borrow.Author.Rules.{rules}
 use Rattle.blocks.proofs.fixed_at.Goals as goal
 
 pub returns : goal.returns

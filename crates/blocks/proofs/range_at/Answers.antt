@@ -3,7 +3,6 @@ use mathlib.Core.Path.{◌≡◌, ap}
 use Prim.Native.Nat.{◌+◌}
 use native.Mathlib.Omega.{arith}
 use Rattle.blocks.specs.Block.{range_size}
-use borrow.Author.Rules.{rules}
 use Rattle.blocks.proofs.range_at.Goals as goal
 
 pub read_f64-minimum-requires : goal.read_f64-minimum-requires

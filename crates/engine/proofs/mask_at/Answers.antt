@@ -1,7 +1,6 @@
 -- `engine::mask_at` meets its contract. Assumes nothing.
 use mathlib.Core.Path.{sym, ap, ◌∙◌}
 use Rattle.engine.specs.Apply.{mask_by}
-use borrow.Author.Rules.{rules}
 use Rattle.engine.proofs.mask_at.Goals as goal
 
 pub returns-in-Bits : goal.returns-in-Bits

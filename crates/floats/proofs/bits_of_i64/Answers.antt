@@ -1,5 +1,5 @@
 -- `floats::bits_of_i64` meets its contract. Assumes nothing.
-use Rattle.std.proofs.Common.{◌≡◌, ℕ, ◌-◌, nat_abs, ap, ◌∙◌, arith, w64, rules}
+use Rattle.std.proofs.Common.{◌≡◌, ℕ, ◌-◌, nat_abs, ap, ◌∙◌, arith, w64}
 use mir.ValLaws.{to_z-of_z}
 use Rattle.floats.proofs.Signed.{twos_plain, twos_turned}
 use Rattle.floats.proofs.bits_of_i64.Goals as goal

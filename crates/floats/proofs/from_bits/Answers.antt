@@ -1,5 +1,5 @@
 -- `floats::from_bits` meets its contract. Assumes nothing.
-use Rattle.std.proofs.Common.{◌≡◌, true, false, sym, ◌∙◌, rules}
+use Rattle.std.proofs.Common.{◌≡◌, true, false, sym, ◌∙◌}
 use lib.Ieee.{binary64, nan_bits}
 use Rattle.floats.proofs.Nan.{nan_of_pattern, not_true, zero_by_zero}
 use Rattle.floats.proofs.from_bits.Goals as goal

@@ -1,5 +1,5 @@
 -- `floats::from_i64` meets its contract. Assumes nothing.
-use Rattle.std.proofs.Common.{◌≡◌, ℕ, ◌+◌, ◌^◌, ◌<◌, ℤ, pos, nat_abs, sym, ap, ◌∙◌, subst, w64, rules}
+use Rattle.std.proofs.Common.{◌≡◌, ℕ, ◌+◌, ◌^◌, ◌<◌, ℤ, pos, nat_abs, sym, ap, ◌∙◌, subst, w64}
 use lib.Ieee.{binary64, of_int, to_bits}
 use lib.Ieee.Bits.{to_bits-lt}
 use lib.Ieee.Fits.{of_int-fits}

@@ -1,5 +1,5 @@
 -- `floats::from_u64` meets its contract. Assumes nothing.
-use Rattle.std.proofs.Common.{pos, rules}
+use Rattle.std.proofs.Common.{pos}
 use Rattle.floats.proofs.Whole.{read_as, no_nan_read}
 use Rattle.floats.proofs.from_u64.Goals as goal
 

@@ -1,5 +1,5 @@
 -- `floats::kept_bits` meets its contract. Assumes nothing.
-use Rattle.std.proofs.Common.{◌≡◌, true, false, sym, ◌∙◌, rules}
+use Rattle.std.proofs.Common.{◌≡◌, true, false, sym, ◌∙◌}
 use lib.Ieee.{binary64, nan_bits}
 use Rattle.floats.proofs.Nan.{unlike_itself, like_itself}
 use Rattle.floats.proofs.Kept.{kept_word, own_if_plain, own_if_number}

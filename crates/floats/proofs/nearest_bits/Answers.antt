@@ -1,5 +1,5 @@
 -- `floats::nearest_bits` meets its contract. Assumes nothing.
-use Rattle.std.proofs.Common.{◌≡◌, ℕ, ◌+◌, ◌-◌, ◌*◌, ◌%◌, ◌^◌, ◌<◌, pos, sym, ap, ◌∙◌, arith, rules}
+use Rattle.std.proofs.Common.{◌≡◌, ℕ, ◌+◌, ◌-◌, ◌*◌, ◌%◌, ◌^◌, ◌<◌, pos, sym, ap, ◌∙◌, arith}
 use lib.Count.{count_leading_zeros}
 use lib.Ieee.{binary64, of_int, to_bits}
 use lib.Ieee.Nearest.{closest}

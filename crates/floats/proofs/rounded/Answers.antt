@@ -1,5 +1,5 @@
 -- `floats::rounded` meets its contract. Assumes nothing.
-use Rattle.std.proofs.Common.{sym, ◌∙◌, add-one, arith, rules}
+use Rattle.std.proofs.Common.{sym, ◌∙◌, add-one, arith}
 use Rattle.floats.proofs.Whole.{rounded_down, rounded_up, tie_to_even}
 use Rattle.floats.proofs.rounded.Goals as goal
 

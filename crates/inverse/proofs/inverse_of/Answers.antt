@@ -2,7 +2,6 @@
 use mathlib.Core.Path.{ap, ◌∙◌}
 use Rattle.blocks.specs.Make.{with_links, with_details}
 use Rattle.blocks.specs.declared.Block.{Block}
-use borrow.Author.Rules.{rules}
 use Rattle.inverse.proofs.inverse_of.Goals as goal
 
 pub returns : goal.returns

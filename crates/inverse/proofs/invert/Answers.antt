@@ -2,7 +2,6 @@
 use mathlib.Core.Path.{sym, ap, ◌∙◌}
 use Rattle.blocks.specs.declared.Parsed.{Parsed}
 use Rattle.inverse.specs.Invert.{inverted_as, inverting}
-use borrow.Author.Rules.{rules}
 use Rattle.inverse.proofs.invert.Goals as goal
 
 pub invert_block-requires : goal.invert_block-requires

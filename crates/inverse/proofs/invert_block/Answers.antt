@@ -9,7 +9,6 @@ use Rattle.keys.specs.Keys.{KeysIn}
 use Rattle.keys.specs.declared.Fault.TheVariants.{Faulty, Faultless}
 use Rattle.keys.proofs.Faults.{references_enough}
 use Rattle.inverse.proofs.Writing.{keys_in, key_places, block_is, other_type, of_fault, fault_seen}
-use borrow.Author.Rules.{rules}
 use Rattle.inverse.proofs.invert_block.Goals as goal
 
 pub returns-then-b-ne-VALUE_TO_TEXT : goal.returns-then-b-ne-VALUE_TO_TEXT

@@ -1,7 +1,6 @@
 -- `inverse::put_inverse` meets its contract. Assumes nothing.
 use Rattle.words.proofs.Slices.{length_words}
 use Rattle.inverse.proofs.Writing.{inverse_put}
-use borrow.Author.Rules.{rules}
 use Rattle.inverse.proofs.put_inverse.Goals as goal
 
 pub returns : goal.returns

@@ -1,8 +1,6 @@
 -- `inverse::put_words` meets its contract. Before each turn the words from the i-th on are still to be put. Assumes nothing.
-use Prim.Native.Nat.{◌-◌}
 use native.Mathlib.Omega.{arith}
-use Rattle.inverse.proofs.Writing.{PuttingWords, words_none, words_more, words_done}
-use borrow.Author.Rules.{rules}
+use Rattle.inverse.proofs.Writing.{words_none, words_more, words_done}
 use Rattle.inverse.proofs.put_words.Goals as goal
 
 pub loop-i-init : goal.loop-i-init

@@ -1,8 +1,6 @@
 -- put_words.Lts
 use Prim.Native.Nat.{◌-◌}
-use native.Mathlib.Omega.{arith}
-use Rattle.inverse.proofs.Writing.{PuttingWords, words_none, words_more, words_done}
-use borrow.Author.Rules.{rules}
+use Rattle.inverse.proofs.Writing.{PuttingWords}
 use Rattle.inverse.proofs.put_words.Given as goal
 
 abbrev pub invariant-loop-i : goal.invariant-loop-i

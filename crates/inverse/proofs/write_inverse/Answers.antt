@@ -7,7 +7,6 @@ use Rattle.common.proofs.Holding.{none_held, put_held}
 use Rattle.writer.specs.Write.{block_bytes}
 use Rattle.inverse.specs.Invert.{inverse_of}
 use Rattle.inverse.proofs.Writing.{length_inverse}
-use borrow.Author.Rules.{rules}
 use Rattle.inverse.proofs.write_inverse.Goals as goal
 
 pub returns-then-out-size : goal.returns-then-out-size

@@ -1,12 +1,11 @@
 -- `keys::first_doubted` meets its contract. Assumes nothing.
 use mathlib.Core.Path.{◌≡◌, sym, ap, ◌∙◌}
-use Prim.Native.Nat.{◌+◌, ◌-◌, ◌≤◌}
+use Prim.Native.Nat.{◌+◌, ◌-◌}
 use native.Mathlib.Omega.{arith}
 use Rattle.repeats.specs.Repeats.{first_of}
 use Rattle.keys.specs.Keys.{doubted}
 use Rattle.keys.proofs.Faults.{askable_less}
 use Rattle.repeats.proofs.Firsts.{first_here, first_later, first_none}
-use borrow.Author.Rules.{rules}
 use Rattle.keys.proofs.first_doubted.Goals as goal
 
 pub loop-i-init : goal.loop-i-init

@@ -1,12 +1,8 @@
--- first_doubted.Lts
-use mathlib.Core.Path.{◌≡◌, sym, ap, ◌∙◌}
-use Prim.Native.Nat.{◌+◌, ◌-◌, ◌≤◌}
-use native.Mathlib.Omega.{arith}
+-- The loops of `keys::first_doubted`: what stays true from turn to turn, and the measure. Assumes nothing.
+use mathlib.Core.Path.{◌≡◌}
+use Prim.Native.Nat.{◌-◌, ◌≤◌}
 use Rattle.repeats.specs.Repeats.{first_of}
 use Rattle.keys.specs.Keys.{doubted}
-use Rattle.keys.proofs.Faults.{askable_less}
-use Rattle.repeats.proofs.Firsts.{first_here, first_later, first_none}
-use borrow.Author.Rules.{rules}
 use Rattle.keys.proofs.first_doubted.Given as goal
 
 abbrev pub invariant-loop-i : goal.invariant-loop-i

@@ -3,7 +3,6 @@ use mathlib.Core.Path.{sym, ap, ◌∙◌}
 use native.Mathlib.Omega.{arith}
 use Rattle.keys.specs.declared.Fault.TheVariants.{Faulty}
 use Rattle.keys.proofs.Faults.{first_within, usable_numbers, fault_repeated, fault_unusable, faultless}
-use borrow.Author.Rules.{rules}
 use Rattle.keys.proofs.first_fault.Goals as goal
 
 pub first_repeat-unlike-requires : goal.first_repeat-unlike-requires

@@ -5,7 +5,6 @@ use Rattle.leads.proofs.Leads.{lead_at_inside}
 use Rattle.leads.specs.declared.lead.Lead.{Lead}
 use Rattle.repeats.specs.Repeats.{lead_text, text_at}
 use Rattle.keys.specs.Keys.{is_empty}
-use borrow.Author.Rules.{rules}
 use Rattle.keys.proofs.has_no_text.Goals as goal
 
 pub is_empty_run-requires : goal.is_empty_run-requires

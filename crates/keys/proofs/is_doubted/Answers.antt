@@ -3,7 +3,6 @@ use mathlib.Core.Path.{sym, ap, subst, ◌∙◌}
 use Prim.Native.Nat.{◌+◌}
 use Rattle.keys.specs.Keys.{doubted, Askable}
 use Rattle.keys.specs.declared.Doubt.{Doubt}
-use borrow.Author.Rules.{rules}
 use Rattle.keys.proofs.is_doubted.Goals as goal
 
 pub is_unusable-requires : goal.is_unusable-requires

@@ -2,7 +2,6 @@
 use mathlib.Core.Path.{sym}
 use native.Mathlib.Omega.{arith}
 use Rattle.keys.proofs.Faults.{empty_run, first_byte_tells}
-use borrow.Author.Rules.{rules}
 use Rattle.keys.proofs.is_empty_run.Goals as goal
 
 pub returns-then-from-to : goal.returns-then-from-to

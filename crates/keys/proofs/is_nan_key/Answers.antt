@@ -4,7 +4,6 @@ use lib.Ieee.{binary64, nan_bits}
 use lib.Ieee.Bits.{nan_bits_is}
 use Rattle.words.specs.Words.{value_at}
 use Rattle.keys.specs.Keys.{key_at}
-use borrow.Author.Rules.{rules}
 use Rattle.keys.proofs.is_nan_key.Goals as goal
 
 pub returns : goal.returns

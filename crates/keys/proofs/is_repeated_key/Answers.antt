@@ -1,10 +1,8 @@
 -- `keys::is_repeated_key` meets its contract. Before each turn it is known whether one of the first j is equal. Assumes nothing.
 use mathlib.Core.Path.{◌≡◌, refl, ap, ◌∙◌}
-use Prim.Native.Nat.{◌-◌, ◌≤◌}
 use native.Mathlib.Omega.{arith}
 use Rattle.keys.specs.Keys.{key_among}
 use Rattle.keys.proofs.Faults.{among_more}
-use borrow.Author.Rules.{rules}
 use Rattle.keys.proofs.is_repeated_key.Goals as goal
 
 pub number_at-key-requires : goal.number_at-key-requires

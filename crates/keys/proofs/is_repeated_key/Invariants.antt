@@ -1,10 +1,7 @@
--- is_repeated_key.Lts
-use mathlib.Core.Path.{◌≡◌, refl, ap, ◌∙◌}
+-- The loops of `keys::is_repeated_key`: what stays true from turn to turn, and the measure. Assumes nothing.
+use mathlib.Core.Path.{◌≡◌}
 use Prim.Native.Nat.{◌-◌, ◌≤◌}
-use native.Mathlib.Omega.{arith}
 use Rattle.keys.specs.Keys.{key_among}
-use Rattle.keys.proofs.Faults.{among_more}
-use borrow.Author.Rules.{rules}
 use Rattle.keys.proofs.is_repeated_key.Given as goal
 
 abbrev pub invariant-loop-j : goal.invariant-loop-j

@@ -3,7 +3,6 @@ use mathlib.Core.Path.{◌≡◌, sym, ap, ◌∙◌}
 use mathlib.Core.Bool.{Bool, true, false, ◌||◌}
 use Rattle.repeats.specs.Repeats.{text_at}
 use Rattle.keys.specs.Keys.{is_empty, unusable}
-use borrow.Author.Rules.{rules}
 use Rattle.keys.proofs.is_unusable.Goals as goal
 
 pub returns-then-is_nan_key : goal.returns-then-is_nan_key

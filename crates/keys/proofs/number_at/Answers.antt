@@ -6,7 +6,6 @@ use lib.Ieee.Bits.{nan_bits_is}
 use Rattle.floats.proofs.Nan.{not_true}
 use Rattle.words.specs.Words.{value_at}
 use Rattle.keys.specs.Keys.{key_at}
-use borrow.Author.Rules.{rules}
 use Rattle.keys.proofs.number_at.Goals as goal
 
 pub float_from_bits-result : goal.float_from_bits-result

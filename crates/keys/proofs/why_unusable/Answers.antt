@@ -3,7 +3,6 @@ use mathlib.Core.Path.{◌≡◌, sym, ap, ◌∙◌}
 use mathlib.Core.Bool.{Bool, true, false, cond}
 use Rattle.common.specs.declared.refusal.Refusal.TheVariants.{NotText, Key}
 use Rattle.keys.specs.Keys.{why_unusable}
-use borrow.Author.Rules.{rules}
 use Rattle.keys.proofs.why_unusable.Goals as goal
 
 pub returns-then-isnan : goal.returns-then-isnan

@@ -7,7 +7,6 @@ use Rattle.conversion.specs.declared.logic.Applied.{Applied}
 use Rattle.steps.specs.declared.mode.Mode.{Mode}
 use Rattle.modes.specs.Asked.{is_edition, is_width, refusal_of}
 use Rattle.modes.proofs.Laws.{both, mode_taken, mode_refused}
-use borrow.Author.Rules.{rules}
 use Rattle.modes.proofs.apply_at.Goals as goal
 
 pub returns-then-named-is_width : goal.returns-then-named-is_width
@@ -16,7 +15,7 @@ returns-then-named-is_width c =
     let asked = ap₂ ◌&&◌ (sym c.is_edition-named.ensures) (sym c.is_width.ensures) ∙ c.if-named-is_width.true in
     let is = both (is_edition s.edition) (is_width s.width) asked in
     c.apply_in.ensures
-    ∙ ap (λ (m : Mode). applying m s.image.now s.address s.limit s.value s.text.now s.out.now) c.before.before.before.before.Mode-of.ensures
+    ∙ ap (λ (m : Mode). applying m s.image.now s.address s.limit s.value s.text.now s.out.now) c.mode_of.ensures
     ∙ sym (mode_taken s.image.now s.address s.limit s.text.now s.out.now s.edition s.width s.value is.0 is.1)
 
 pub returns-else-named-is_width : goal.returns-else-named-is_width

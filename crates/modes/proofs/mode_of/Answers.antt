@@ -1,6 +1,5 @@
 -- `modes::mode_of` meets its contract. Assumes nothing.
 use mathlib.Core.Path.{ap}
-use borrow.Author.Rules.{rules}
 use Rattle.steps.specs.declared.mode.Edition.{Edition}
 use Rattle.modes.proofs.mode_of.Goals as goal
 

@@ -4,7 +4,6 @@ use native.Mathlib.Omega.{arith}
 use Rattle.common.proofs.Texts.{bytes_short}
 use Rattle.repeats.specs.Scan.{run_text}
 use Rattle.repeats.proofs.Rests.{byte_here, byte_end}
-use borrow.Author.Rules.{rules}
 use Rattle.repeats.proofs.byte_at.Goals as goal
 
 pub overflow_add-p : goal.overflow_add-p

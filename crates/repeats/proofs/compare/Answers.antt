@@ -1,8 +1,9 @@
 -- `repeats::compare` meets its contract. Assumes nothing.
 use mathlib.Core.Path.{◌≡◌, sym, ◌∙◌}
-use Prim.Native.Nat.{◌+◌, ◌-◌, ◌≤◌}
+use Prim.Native.Nat.{ℕ, ◌+◌, ◌≤◌}
 use native.Mathlib.Omega.{arith}
-use lib.ListN.{length, get_or}
+use mathlib.Core.List.{List}
+use lib.ListN.{get_or}
 use Rattle.common.proofs.Texts.{bytes_short}
 use Rattle.repeats.specs.Scan.{in_common, run_text}
 use Rattle.repeats.proofs.Common.{in_common_short, in_common_short', one_more, differs, both_end}
@@ -10,18 +11,8 @@ use Rattle.repeats.proofs.Rests.{ends}
 use Rattle.repeats.proofs.compare.Goals as goal
 
 -- one byte more
-module _ (c : tie.Else2 invariant-loop decreases-loop) where
-  goes_on : c.before.before.before.before.loop.i + 1
-      ≤ in_common (run_text c.before.before.before.before.before.before.args.image.now c.before.before.before.before.before.before.args.x)
-      (run_text c.before.before.before.before.before.before.args.image.now c.before.before.before.before.before.before.args.y)
-  goes_on =
-      let s = c.before.before.before.before.before.before in
-      let img = s.args.image.now in
-      let l = c.before.before.before.before.loop in
-      let here = c.before.before.before.byte_at.ensures in
-      one_more (run_text img s.args.x) (run_text img s.args.y) l.i l.invariant
-      (sym here ∙ c.before.if1.false ∙ c.before.before.byte-at2.ensures)
-      (λ z. c.if2.false (here ∙ z))
+goes_on : (q t : List ℕ) (i c d : ℕ) → i ≤ in_common q t → c ≡ get_or q i 0 → d ≡ get_or t i 0 → c ≡ d → (c ≡ 0 → ⊥) → i + 1 ≤ in_common q t
+goes_on q t i c d h here there same z = one_more q t i h (sym here ∙ same ∙ there) (λ e. z (here ∙ e))
 
 pub loop-x-init : goal.loop-x-init
 loop-x-init c = c.requires.2
@@ -61,12 +52,13 @@ unfolding run_text
 overflow_add-i c =
     let img = c.args.image.now in
     let x = c.args.x in
-    omega (arith, goes_on c, in_common_short (run_text img x) (run_text img c.args.y), bytes_short img x.from x.to, c.requires.0.1)
+    omega (arith, goes_on (run_text c.args.image.now c.args.x) (run_text c.args.image.now c.args.y) c.loop-x.i _ _ c.loop-x.invariant c.byte_at-c.ensures c.byte_at.ensures c.if-c-byte_at.false c.if-c-eq0.false, in_common_short (run_text img x) (run_text img c.args.y), bytes_short img x.from x.to, c.requires.0.1)
 
 pub loop-x-smaller : goal.loop-x-smaller
 loop-x-smaller c =
     let img = c.args.image.now in
-    omega (arith, goes_on c, in_common_short (run_text img c.args.x) (run_text img c.args.y))
+    omega (arith, goes_on (run_text c.args.image.now c.args.x) (run_text c.args.image.now c.args.y) c.loop-x.i _ _ c.loop-x.invariant c.byte_at-c.ensures c.byte_at.ensures c.if-c-byte_at.false c.if-c-eq0.false, in_common_short (run_text img c.args.x) (run_text img c.args.y))
 
 pub loop-x-preserved : goal.loop-x-preserved
-loop-x-preserved c = goes_on c
+loop-x-preserved c =
+    goes_on (run_text c.args.image.now c.args.x) (run_text c.args.image.now c.args.y) c.loop-x.i _ _ c.loop-x.invariant c.byte_at-c.ensures c.byte_at.ensures c.if-c-byte_at.false c.if-c-eq0.false

@@ -1,12 +1,7 @@
--- compare.Lts
-use mathlib.Core.Path.{◌≡◌, sym, ◌∙◌}
-use Prim.Native.Nat.{◌+◌, ◌-◌, ◌≤◌}
-use native.Mathlib.Omega.{arith}
-use lib.ListN.{length, get_or}
-use Rattle.common.proofs.Texts.{bytes_short}
+-- The loops of `repeats::compare`: what stays true from turn to turn, and the measure. Assumes nothing.
+use Prim.Native.Nat.{◌-◌, ◌≤◌}
+use lib.ListN.{length}
 use Rattle.repeats.specs.Scan.{in_common, run_text}
-use Rattle.repeats.proofs.Common.{in_common_short, in_common_short', one_more, differs, both_end}
-use Rattle.repeats.proofs.Rests.{ends}
 use Rattle.repeats.proofs.compare.Given as goal
 
 abbrev pub invariant-loop-x : goal.invariant-loop-x

@@ -1,29 +1,13 @@
 -- `repeats::fill` meets its contract. The texts before the i-th have their numbers. Assumes nothing.
-use mathlib.Core.Path.{◌≡◌, sym, ◌∙◌}
-use mathlib.Core.List.{List}
-use Prim.Native.Nat.{ℕ, ◌+◌, ◌-◌, ◌≤◌}
+use mathlib.Core.Path.{sym, ◌∙◌}
+use Prim.Native.Nat.{◌+◌, ◌-◌}
 use native.Mathlib.Omega.{arith}
-use lib.ListN.{length}
-use Rattle.repeats.specs.Scan.{run_text, Apart, Kept}
+use Rattle.repeats.specs.Scan.{run_text}
 use Rattle.repeats.proofs.Common.{no_longer}
 use Rattle.repeats.proofs.Numbers.{number_is}
 use Rattle.repeats.proofs.Chunks.{held, not_held, comes_again, is_new, apart_none, apart_more}
 use borrow.Author.Rules.{rules}
 use Rattle.repeats.proofs.fill.Goals as goal
-use Rattle.repeats.proofs.fill.Goals.{After-hold, Start}
-
--- behind the call of `hold`: the start, the turn, and the text that is held with its number
-abbrev begun : After-hold → Start
-begun h = h.before.before.before.before.before.before.before.before.before.before.before.before.before
-
-abbrev index : After-hold → ℕ
-index h = h.before.before.before.before.before.before.before.loop.i
-
-abbrev number : After-hold → ℕ
-number h = index h - (begun h).args.start + 1
-
-abbrev text : After-hold → List ℕ
-text h = run_text (begun h).args.image.now h.before.before.before.before.before.run_at.result
 
 pub loop-i-init : goal.loop-i-init
 loop-i-init c =
@@ -40,28 +24,19 @@ loop-i-init c =
 
 pub hold-requires-clause-run_in : goal.hold-requires-clause-run_in
 hold-requires-clause-run_in c =
-    (let l = c.loop-i in (
-      (c.run_at-q.ensures.inner, omega arith, omega arith, omega arith),
-      ((l.invariant.2, l.invariant.3, l.invariant.4, l.invariant.5), l.invariant.7),
-    )).0
+    (c.run_at-q.ensures.inner, omega arith, omega arith, omega arith)
 
 pub hold-requires-clause-rows : goal.hold-requires-clause-rows
 hold-requires-clause-rows c =
-    (let l = c.loop-i in (
-      (c.run_at-q.ensures.inner, omega arith, omega arith, omega arith),
-      ((l.invariant.2, l.invariant.3, l.invariant.4, l.invariant.5), l.invariant.7),
-    )).1
+    let l = c.loop-i in (l.invariant.2, l.invariant.3, l.invariant.4, l.invariant.5)
 
 pub hold-requires-clause-kept : goal.hold-requires-clause-kept
 hold-requires-clause-kept c =
-    (let l = c.loop-i in (
-      (c.run_at-q.ensures.inner, omega arith, omega arith, omega arith),
-      ((l.invariant.2, l.invariant.3, l.invariant.4, l.invariant.5), l.invariant.7),
-    )).2
+    c.loop-i.invariant.7
 
 pub returns-then-hold : goal.returns-then-hold
 returns-then-hold c =
-    let s = (begun c.before.before.before.before).args in
+    let s = c.args in
     let img = s.image.now in
     let l = c.loop-i in
     record {
@@ -71,55 +46,55 @@ returns-then-hold c =
             most = l.invariant.1;
             apart = l.invariant.6;
             again = λ less.
-                comes_again img s.b s.start (text c.before.before.before.before) (number c.before.before.before.before) (index c.before.before.before.before) c.run_at-q.ensures.text (omega arith)
-                (held img s.b s.start (text c.before.before.before.before) _ (number c.before.before.before.before) c.hold.result c.if-hold.true c.hold.ensures);
+                comes_again img s.b s.start (run_text c.args.image.now c.run_at-q.result) (c.loop-i.i - c.args.start + 1) c.loop-i.i c.run_at-q.ensures.text (omega arith)
+                (held img s.b s.start (run_text c.args.image.now c.run_at-q.result) _ (c.loop-i.i - c.args.start + 1) c.hold.result c.if-hold.true c.hold.ensures);
           };
       kept = l.invariant.7;
     }
 
 pub note-requires-clause-run_in : goal.note-requires-clause-run_in
 note-requires-clause-run_in c =
-    let s = (begun c.before.before.before.before.before.before.before.before).args in
-    let fits = (begun c.before.before.before.before.before.before.before.before).requires.0 in
+    let s = c.args in
+    let fits = c.requires.start_le_stop in
     let l = c.loop-i in
     let size = l.invariant.5 in
     let same = c.agree-1.given in
-    let agreed = not_held s.image.now s.b s.start (text c.before.before.before.before.before.before.before.before) _ (number c.before.before.before.before.before.before.before.before) h.hold.result c.if-hold.false h.hold.ensures in
+    let agreed = not_held s.image.now s.b s.start (run_text c.args.image.now c.run_at-q.result) _ (c.loop-i.i - c.args.start + 1) c.hold.result c.if-hold.false c.hold.ensures in
     (c.run_at-q.ensures.inner, omega arith, omega arith, λ k less. no_longer _ _ _ (agreed k less).0)
 
 pub note-requires-clause-rows : goal.note-requires-clause-rows
 note-requires-clause-rows c =
-    let s = (begun c.before.before.before.before.before.before.before.before).args in
-    let fits = (begun c.before.before.before.before.before.before.before.before).requires.0 in
+    let s = c.args in
+    let fits = c.requires.start_le_stop in
     let l = c.loop-i in
     let size = l.invariant.5 in
     let same = c.agree-1.given in
-    let agreed = not_held s.image.now s.b s.start (text c.before.before.before.before.before.before.before.before) _ (number c.before.before.before.before.before.before.before.before) h.hold.result c.if-hold.false h.hold.ensures in
+    let agreed = not_held s.image.now s.b s.start (run_text c.args.image.now c.run_at-q.result) _ (c.loop-i.i - c.args.start + 1) c.hold.result c.if-hold.false c.hold.ensures in
     (l.invariant.2, l.invariant.3, l.invariant.4, search rules)
 
 pub overflow_add-i : goal.overflow_add-i
 overflow_add-i c =
-    omega (arith, (begun c.before.before.before.before.before.before.before.before.before.before.before.before.before.before.before).requires.0.1, c.loop-i-test.true)
+    omega (arith, c.requires.start_le_stop.1, c.loop-i-test.true)
 
 pub loop-i-preserved : goal.loop-i-preserved
 loop-i-preserved c =
-    let s = (begun c.before.before.before.before.before.before.before.before.before.before.before.before.before.before.before).args in
-    let fits = (begun c.before.before.before.before.before.before.before.before.before.before.before.before.before.before.before).requires.0 in
+    let s = c.args in
+    let fits = c.requires.start_le_stop in
     let img = s.image.now in
     let l = c.loop-i in
     let size = l.invariant.5 in
     let same = c.agree-1.given in
     let is = c.run_at-q.ensures.text in
-    let agreed = not_held img s.b s.start (text c.before.before.before.before.before.before.before.before.before.before.before.before.before.before.before) _ (number c.before.before.before.before.before.before.before.before.before.before.before.before.before.before.before) h.hold.result c.if-hold.false h.hold.ensures in
-    let known = number_is img s.b s.start (number c.before.before.before.before.before.before.before.before.before.before.before.before.before.before.before) (index c.before.before.before.before.before.before.before.before.before.before.before.before.before.before.before) (omega arith) (omega arith) in (
+    let agreed = not_held img s.b s.start (run_text c.args.image.now c.run_at-q.result) _ (c.loop-i.i - c.args.start + 1) c.hold.result c.if-hold.false c.hold.ensures in
+    let known = number_is img s.b s.start (c.loop-i.i - c.args.start + 1) c.loop-i.i (omega arith) (omega arith) in (
       omega arith,
       omega arith,
       search rules,
       search rules,
       search rules,
       search rules,
-      apart_more img s.b s.start s.stop (index c.before.before.before.before.before.before.before.before.before.before.before.before.before.before.before) l.invariant.6
-          (λ j low high. is_new img s.b s.start (text c.before.before.before.before.before.before.before.before.before.before.before.before.before.before.before) (number c.before.before.before.before.before.before.before.before.before.before.before.before.before.before.before) (index c.before.before.before.before.before.before.before.before.before.before.before.before.before.before.before) is (omega arith) (λ k less. (agreed k less).1) j low (omega arith)),
+      apart_more img s.b s.start s.stop c.loop-i.i l.invariant.6
+          (λ j low high. is_new img s.b s.start (run_text c.args.image.now c.run_at-q.result) (c.loop-i.i - c.args.start + 1) c.loop-i.i is (omega arith) (λ k less. (agreed k less).1) j low (omega arith)),
       λ k some less. c.note.ensures s.b s.start (is ∙ sym known) agreed l.invariant.7 k some (omega arith),
     )
 

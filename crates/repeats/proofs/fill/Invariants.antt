@@ -1,14 +1,8 @@
--- fill.Lts
-use mathlib.Core.Path.{◌≡◌, sym, ◌∙◌}
-use mathlib.Core.List.{List}
-use Prim.Native.Nat.{ℕ, ◌+◌, ◌-◌, ◌≤◌}
-use native.Mathlib.Omega.{arith}
+-- The loops of `repeats::fill`: what stays true from turn to turn, and the measure. Assumes nothing.
+use mathlib.Core.Path.{◌≡◌}
+use Prim.Native.Nat.{◌+◌, ◌-◌, ◌≤◌}
 use lib.ListN.{length}
-use Rattle.repeats.specs.Scan.{run_text, Apart, Kept}
-use Rattle.repeats.proofs.Common.{no_longer}
-use Rattle.repeats.proofs.Numbers.{number_is}
-use Rattle.repeats.proofs.Chunks.{held, not_held, comes_again, is_new, apart_none, apart_more}
-use borrow.Author.Rules.{rules}
+use Rattle.repeats.specs.Scan.{Apart, Kept}
 use Rattle.repeats.proofs.fill.Given as goal
 
 abbrev pub invariant-loop-i : goal.invariant-loop-i

@@ -1,9 +1,6 @@
 -- `repeats::first_repeat` meets its contract. The chunks before `start` have been gone through. Assumes nothing.
-use Prim.Native.Nat.{◌-◌}
-use Rattle.repeats.specs.Scan.{FirstRepeat}
 use Rattle.repeats.proofs.Chunks.{first_none, first_more}
 use Rattle.repeats.proofs.Firsts.{first_found}
-use borrow.Author.Rules.{rules}
 use Rattle.repeats.proofs.first_repeat.Goals as goal
 
 pub loop-start-init : goal.loop-start-init

@@ -1,9 +1,6 @@
--- first_repeat.Lts
+-- The loops of `repeats::first_repeat`: what stays true from turn to turn, and the measure. Assumes nothing.
 use Prim.Native.Nat.{◌-◌}
 use Rattle.repeats.specs.Scan.{FirstRepeat}
-use Rattle.repeats.proofs.Chunks.{first_none, first_more}
-use Rattle.repeats.proofs.Firsts.{first_found}
-use borrow.Author.Rules.{rules}
 use Rattle.repeats.proofs.first_repeat.Given as goal
 
 abbrev pub invariant-loop-start : goal.invariant-loop-start

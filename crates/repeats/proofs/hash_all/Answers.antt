@@ -1,9 +1,7 @@
 -- `repeats::hash_all` meets its contract. Before each turn the first k hashes are there. Assumes nothing.
-use mathlib.Core.Path.{◌≡◌, ap, ◌∙◌}
-use Prim.Native.Nat.{◌-◌, ◌≤◌}
+use mathlib.Core.Path.{ap, ◌∙◌}
 use native.Mathlib.Omega.{arith}
-use lib.ListN.{length}
-use Rattle.repeats.specs.Scan.{hash_of, Hashed}
+use Rattle.repeats.specs.Scan.{hash_of}
 use Rattle.repeats.proofs.Hashes.{hashed_more}
 use borrow.Author.Rules.{rules}
 use Rattle.repeats.proofs.hash_all.Goals as goal

@@ -1,11 +1,8 @@
--- hash_all.Lts
-use mathlib.Core.Path.{◌≡◌, ap, ◌∙◌}
+-- The loops of `repeats::hash_all`: what stays true from turn to turn, and the measure. Assumes nothing.
+use mathlib.Core.Path.{◌≡◌}
 use Prim.Native.Nat.{◌-◌, ◌≤◌}
-use native.Mathlib.Omega.{arith}
 use lib.ListN.{length}
-use Rattle.repeats.specs.Scan.{hash_of, Hashed}
-use Rattle.repeats.proofs.Hashes.{hashed_more}
-use borrow.Author.Rules.{rules}
+use Rattle.repeats.specs.Scan.{Hashed}
 use Rattle.repeats.proofs.hash_all.Given as goal
 
 abbrev pub invariant-loop-k : goal.invariant-loop-k

@@ -1,10 +1,7 @@
 -- `repeats::hash_of` meets its contract. Before each turn the bytes from i on are still to be added. Assumes nothing.
-use mathlib.Core.Path.{◌≡◌, refl, sym, ◌∙◌}
-use Prim.Native.Nat.{◌-◌, ◌≤◌, ◌<◌}
+use mathlib.Core.Path.{refl, sym, ◌∙◌}
 use native.Mathlib.Omega.{arith}
-use lib.ListN.{length}
-use Rattle.common.specs.Text.{text_bytes}
-use Rattle.repeats.specs.Scan.{run_text, hash_from, hash_of}
+use Rattle.repeats.specs.Scan.{run_text, hash_of}
 use Rattle.repeats.proofs.Hashes.{hash_zero, hash_more, hash_none}
 use borrow.Author.Rules.{rules}
 use Rattle.repeats.proofs.hash_of.Goals as goal

@@ -1,12 +1,9 @@
--- hash_of.Lts
-use mathlib.Core.Path.{◌≡◌, refl, sym, ◌∙◌}
+-- The loops of `repeats::hash_of`: what stays true from turn to turn, and the measure. Assumes nothing.
+use mathlib.Core.Path.{◌≡◌}
 use Prim.Native.Nat.{◌-◌, ◌≤◌, ◌<◌}
-use native.Mathlib.Omega.{arith}
 use lib.ListN.{length}
 use Rattle.common.specs.Text.{text_bytes}
-use Rattle.repeats.specs.Scan.{run_text, hash_from, hash_of}
-use Rattle.repeats.proofs.Hashes.{hash_zero, hash_more, hash_none}
-use borrow.Author.Rules.{rules}
+use Rattle.repeats.specs.Scan.{hash_from}
 use Rattle.repeats.proofs.hash_of.Given as goal
 
 abbrev pub invariant-loop-i : goal.invariant-loop-i

@@ -1,14 +1,8 @@
--- hold.Lts
-use mathlib.Core.Path.{◌≡◌, sym, subst, ◌∙◌}
-use mathlib.Core.List.{List}
-use Prim.Native.Nat.{ℕ, ◌+◌, ◌-◌, ◌≤◌}
-use native.Mathlib.Omega.{arith}
+-- The loops of `repeats::hold`: what stays true from turn to turn, and the measure. Assumes nothing.
+use mathlib.Core.Path.{◌≡◌}
+use Prim.Native.Nat.{◌-◌, ◌≤◌}
 use lib.ListN.{length}
-use Rattle.repeats.specs.Repeats.{text_at}
-use Rattle.repeats.specs.Scan.{run_text, MetBy, Agreed}
-use Rattle.repeats.specs.declared.Met.TheVariants.{Upto}
-use Rattle.repeats.proofs.Numbers.{number_is, through, agreed_none, agreed_more}
-use borrow.Author.Rules.{rules}
+use Rattle.repeats.specs.Scan.{run_text, Agreed}
 use Rattle.repeats.proofs.hold.Given as goal
 
 abbrev pub invariant-loop-k : goal.invariant-loop-k

@@ -1,9 +1,6 @@
 -- `repeats::is_among` meets its contract. Where nothing was found, none of the first k hashes is h. Assumes nothing.
-use Prim.Native.Nat.{◌-◌, ◌≤◌}
 use native.Mathlib.Omega.{arith}
-use Rattle.repeats.specs.Scan.{NoneIs}
 use Rattle.repeats.proofs.Hashes.{none_more}
-use borrow.Author.Rules.{rules}
 use Rattle.repeats.proofs.is_among.Goals as goal
 
 pub loop-k-init : goal.loop-k-init

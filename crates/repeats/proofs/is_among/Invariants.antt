@@ -1,9 +1,6 @@
--- is_among.Lts
+-- The loops of `repeats::is_among`: what stays true from turn to turn, and the measure. Assumes nothing.
 use Prim.Native.Nat.{◌-◌, ◌≤◌}
-use native.Mathlib.Omega.{arith}
 use Rattle.repeats.specs.Scan.{NoneIs}
-use Rattle.repeats.proofs.Hashes.{none_more}
-use borrow.Author.Rules.{rules}
 use Rattle.repeats.proofs.is_among.Given as goal
 
 abbrev pub invariant-loop-k : goal.invariant-loop-k

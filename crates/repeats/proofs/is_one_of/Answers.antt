@@ -2,7 +2,6 @@
 use Rattle.repeats.specs.Scan.{run_text}
 use Rattle.repeats.proofs.Chunks.{held_tells}
 use Rattle.repeats.proofs.Hashes.{hash_tells}
-use borrow.Author.Rules.{rules}
 use Rattle.repeats.proofs.is_one_of.Goals as goal
 
 pub returns-then-is_among : goal.returns-then-is_among
@@ -18,4 +17,4 @@ returns c =
     let img = a.image.now in
     let t = c.is_among in
     let h = c.hash_of in
-    hash_tells img a.b a.start a.count h.result (run_text img a.q) a.hashes.now t.result h.ensures c.requires.rows.1.1.1 t.ensures c.if-is_among.false
+    hash_tells img a.b a.start a.count h.result (run_text img a.q) a.hashes.now t.result h.ensures c.requires.hashes_len.1 t.ensures c.if-is_among.false

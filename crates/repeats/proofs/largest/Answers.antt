@@ -1,8 +1,7 @@
 -- `repeats::largest` meets its contract. Assumes nothing.
-use mathlib.Core.Logic.{⊎_elim}
-use Prim.Native.Nat.{◌-◌, ◌≤◌, ◌<◌}
 use native.Mathlib.Omega.{arith}
 use Rattle.repeats.proofs.largest.Goals as goal
+use Rattle.repeats.proofs.largest.Goals.{then-agree-best, else-agree-best}
 
 pub loop-k-init : goal.loop-k-init
 loop-k-init c = omega arith
@@ -26,7 +25,7 @@ pub loop-k-smaller : goal.loop-k-smaller
 loop-k-smaller c = omega arith
 
 pub loop-k-preserved : goal.loop-k-preserved
-loop-k-preserved c = ⊎_elim (λ w. omega arith) (λ w. omega arith) c.if-agree-best.branch
+loop-k-preserved c = elim c.if-agree-best.branch [ then-agree-best w ↦ omega arith | else-agree-best w ↦ omega arith ]
 
 pub returns : goal.returns
 returns c = omega arith

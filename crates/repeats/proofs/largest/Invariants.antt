@@ -1,7 +1,5 @@
--- largest.Lts
-use mathlib.Core.Logic.{⊎_elim}
+-- The loops of `repeats::largest`: what stays true from turn to turn, and the measure. Assumes nothing.
 use Prim.Native.Nat.{◌-◌, ◌≤◌, ◌<◌}
-use native.Mathlib.Omega.{arith}
 use Rattle.repeats.proofs.largest.Given as goal
 
 abbrev pub invariant-loop-k : goal.invariant-loop-k

@@ -7,32 +7,23 @@ use Rattle.repeats.specs.Repeats.{text_at}
 use Rattle.repeats.specs.Scan.{in_common, run_text, MetBy}
 use Rattle.repeats.proofs.Common.{meets_first, meets_later, meets_both, meets_mark, meets_within}
 use Rattle.repeats.proofs.Runs.{one_run}
-use borrow.Author.Rules.{rules}
 use Rattle.repeats.proofs.meet.Goals as goal
-use Rattle.repeats.proofs.meet.Goals.{Start}
-
--- the two texts
-abbrev asked : Start → List ℕ
-asked s = run_text s.args.image.now s.args.q
-
-abbrev other : Start → List ℕ
-other s = text_at s.args.image.now s.args.b s.args.i
 
 pub returns-then-a-s : goal.returns-then-a-s
 returns-then-a-s c =
-    meets_first (asked c.before.before.before) (other c.before.before.before) c.args.a c.args.s c.args.mark c.requires.1 c.if-a-s.true
+    meets_first (run_text c.args.image.now c.args.q) (text_at c.args.image.now c.args.b c.args.i) c.args.a c.args.s c.args.mark c.requires.1 c.if-a-s.true
 
 pub returns-then-s-a : goal.returns-then-s-a
 returns-then-s-a c =
-    meets_later (asked c.before.before.before.before) (other c.before.before.before.before) c.args.a c.args.s c.args.mark c.requires.1 c.if-s-a.true
+    meets_later (run_text c.args.image.now c.args.q) (text_at c.args.image.now c.args.b c.args.i) c.args.a c.args.s c.args.mark c.requires.1 c.if-s-a.true
 
 pub byte_at-requires : goal.byte_at-requires
 byte_at-requires c =
-    (c.requires.0, meets_within (asked c.before.before.before.before) (other c.before.before.before.before) c.args.a c.args.s c.args.mark c.requires.1)
+    (c.requires.0, meets_within (run_text c.args.image.now c.args.q) (text_at c.args.image.now c.args.b c.args.i) c.args.a c.args.s c.args.mark c.requires.1)
 
 pub returns-then-byte_at-mark : goal.returns-then-byte_at-mark
 returns-then-byte_at-mark c =
-    meets_mark (asked c.before.before.before.before.before.before) (other c.before.before.before.before.before.before) c.args.a c.args.s c.args.mark c.requires.1 (omega arith)
+    meets_mark (run_text c.args.image.now c.args.q) (text_at c.args.image.now c.args.b c.args.i) c.args.a c.args.s c.args.mark c.requires.1 (omega arith)
     (λ e. c.if-byte_at-mark.true (c.byte_at.ensures ∙ e))
 
 pub returns-then-t-q-2 : goal.returns-then-t-q-2
@@ -42,10 +33,10 @@ pub compare-requires : goal.compare-requires
 compare-requires c = (
   c.requires.0,
   c.run_at-t.ensures.inner,
-  subst (λ (t : List ℕ). c.args.a ≤ in_common (asked c.before.before.before.before.before.before.before.before.before.before) t) (sym c.run_at-t.ensures.text)
-      (meets_both (asked c.before.before.before.before.before.before.before.before.before.before) (other c.before.before.before.before.before.before.before.before.before.before) c.args.a c.args.s c.args.mark c.requires.1 (omega arith)),
+  subst (λ (t : List ℕ). c.args.a ≤ in_common (run_text c.args.image.now c.args.q) t) (sym c.run_at-t.ensures.text)
+      (meets_both (run_text c.args.image.now c.args.q) (text_at c.args.image.now c.args.b c.args.i) c.args.a c.args.s c.args.mark c.requires.1 (omega arith)),
 )
 
 pub returns : goal.returns
 returns c =
-    subst (λ (t : List ℕ). MetBy (asked c.before.before.before.before.before.before.before.before.before.before.before) t c.compare.result) c.run_at-t.ensures.text c.compare.ensures
+    subst (λ (t : List ℕ). MetBy (run_text c.args.image.now c.args.q) t c.compare.result) c.run_at-t.ensures.text c.compare.ensures

@@ -3,7 +3,6 @@ use mathlib.Core.Path.{refl}
 use native.Mathlib.Omega.{arith}
 use Rattle.repeats.specs.Scan.{run_text}
 use Rattle.repeats.proofs.Numbers.{grown}
-use borrow.Author.Rules.{rules}
 use Rattle.repeats.proofs.note.Goals as goal
 
 pub byte_at-requires : goal.byte_at-requires

@@ -9,57 +9,13 @@ returns-then-r-stop c =
     let s = c.args in
     own s.image.now s.b s.start c.stop_of-stop.result s.bound c.stop_of-stop.ensures c.fill-r.result c.if-r-stop.true c.fill-r.ensures.first
 
-pub search-requires-clause-start_le_stop : goal.search-requires-clause-start_le_stop
-search-requires-clause-start_le_stop c =
-    ((
-      search rules,
-      (
-        search rules,
-        (
-          λ k some less. c.fill-r.ensures.kept k some (omega (arith, c.if-r-stop.false)),
-          (search rules, c.hash_all.ensures),
-        ),
-      ),
-    )).0
-
-pub search-requires-clause-rows : goal.search-requires-clause-rows
-search-requires-clause-rows c =
-    ((
-      search rules,
-      (
-        search rules,
-        (
-          λ k some less. c.fill-r.ensures.kept k some (omega (arith, c.if-r-stop.false)),
-          (search rules, c.hash_all.ensures),
-        ),
-      ),
-    )).1
-
 pub search-requires-clause-kept : goal.search-requires-clause-kept
 search-requires-clause-kept c =
-    ((
-      search rules,
-      (
-        search rules,
-        (
-          λ k some less. c.fill-r.ensures.kept k some (omega (arith, c.if-r-stop.false)),
-          (search rules, c.hash_all.ensures),
-        ),
-      ),
-    )).2
+    λ k some less. c.fill-r.ensures.kept k some (omega (arith, c.if-r-stop.false))
 
 pub search-requires-clause-hashes_len : goal.search-requires-clause-hashes_len
 search-requires-clause-hashes_len c =
-    ((
-      search rules,
-      (
-        search rules,
-        (
-          λ k some less. c.fill-r.ensures.kept k some (omega (arith, c.if-r-stop.false)),
-          (search rules, c.hash_all.ensures),
-        ),
-      ),
-    )).3
+    (search rules, c.hash_all.ensures)
 
 pub returns : goal.returns
 returns c =

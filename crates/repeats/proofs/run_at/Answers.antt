@@ -2,7 +2,6 @@
 use mathlib.Core.Path.{refl, sym, ap, ◌∙◌}
 use Rattle.repeats.specs.Repeats.{lead_text}
 use Rattle.repeats.proofs.Runs.{run_words, run_none}
-use borrow.Author.Rules.{rules}
 use Rattle.repeats.proofs.run_at.Goals as goal
 
 pub returns-in-Words : goal.returns-in-Words

@@ -1,12 +1,8 @@
--- search.Lts
+-- The loops of `repeats::search`: what stays true from turn to turn, and the measure. Assumes nothing.
 use mathlib.Core.Path.{◌≡◌}
-use mathlib.Core.List.{List}
-use Prim.Native.Nat.{ℕ, ◌+◌, ◌-◌, ◌≤◌}
-use native.Mathlib.Omega.{arith}
+use Prim.Native.Nat.{◌-◌, ◌≤◌}
 use lib.ListN.{length}
-use Rattle.repeats.specs.Scan.{run_text, Behind}
-use Rattle.repeats.proofs.Chunks.{told, not_told, comes_again, is_new, behind_none, behind_more}
-use borrow.Author.Rules.{rules}
+use Rattle.repeats.specs.Scan.{Behind}
 use Rattle.repeats.proofs.search.Given as goal
 
 abbrev pub invariant-loop-i : goal.invariant-loop-i

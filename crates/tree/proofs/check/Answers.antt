@@ -4,7 +4,6 @@ use native.Mathlib.Omega.{arith}
 use Rattle.common.proofs.Headers.{inside_fits}
 use Rattle.tree.proofs.Paths.{standing_none}
 use Rattle.tree.proofs.Checks.{checked_outside, checked_other, checked_walk}
-use borrow.Author.Rules.{rules}
 use Rattle.tree.proofs.check.Goals as goal
 
 pub is_conversion-requires : goal.is_conversion-requires

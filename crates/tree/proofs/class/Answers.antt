@@ -5,7 +5,6 @@ use lib.ListN.{take}
 use Rattle.common.proofs.Headers.{inside_fits}
 use Rattle.tree.specs.Walk.{classed}
 use Rattle.tree.proofs.Paths.{off_path, not_inside, not_conversion}
-use borrow.Author.Rules.{rules}
 use Rattle.tree.proofs.class.Goals as goal
 
 pub returns-then-r-eq0 : goal.returns-then-r-eq0

@@ -1,10 +1,7 @@
 -- `tree::is_on` meets its contract. Assumes nothing.
 use borrow.Author.Rules.{rules}
-use mathlib.Core.Path.{◌≡◌, refl, sym, ◌∙◌}
-use Prim.Native.Nat.{◌≤◌, ◌-◌}
+use mathlib.Core.Path.{refl, sym, ◌∙◌}
 use native.Mathlib.Omega.{arith}
-use lib.ListN.{take, drop}
-use Rattle.tree.specs.Walk.{on}
 use Rattle.tree.proofs.Paths.{on_past, on_hit, on_none}
 use Rattle.tree.proofs.is_on.Goals as goal
 

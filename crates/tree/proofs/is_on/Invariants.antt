@@ -1,11 +1,8 @@
--- is_on.Lts
-use borrow.Author.Rules.{rules}
-use mathlib.Core.Path.{◌≡◌, refl, sym, ◌∙◌}
+-- The search's invariant: the address is on the path exactly when it is among the addresses from the i-th on. Assumes nothing.
+use mathlib.Core.Path.{◌≡◌}
 use Prim.Native.Nat.{◌≤◌, ◌-◌}
-use native.Mathlib.Omega.{arith}
 use lib.ListN.{take, drop}
 use Rattle.tree.specs.Walk.{on}
-use Rattle.tree.proofs.Paths.{on_past, on_hit, on_none}
 use Rattle.tree.proofs.is_on.Given as goal
 
 abbrev pub invariant-loop-i : goal.invariant-loop-i

@@ -1,12 +1,11 @@
 -- `words::put_floats` meets its contract. Assumes nothing.
-use borrow.Author.Rules.{rules}
-use Prim.Native.Nat.{◌-◌, ◌<◌, ◌≤◌}
+use Prim.Native.Nat.{◌<◌, ◌≤◌}
 use native.Mathlib.Omega.{arith}
 use mathlib.Core.List.{map}
 use lib.Ieee.{to_bits, binary64}
 use mathlib.Core.Path.{◌≡◌, sym, ◌∙◌}
 use lib.ListN.{length, get_or, length-map}
-use Rattle.words.proofs.Laws.{Putting, putting_none, putting_more, putting_done, bits_at}
+use Rattle.words.proofs.Laws.{putting_none, putting_more, putting_done, bits_at}
 use Rattle.words.proofs.put_floats.Goals as goal
 
 pub loop-i-init : goal.loop-i-init

@@ -1,12 +1,9 @@
--- put_floats.Lts
-use borrow.Author.Rules.{rules}
-use Prim.Native.Nat.{◌-◌, ◌<◌, ◌≤◌}
-use native.Mathlib.Omega.{arith}
+-- The loops of `words::put_floats`: what stays true from turn to turn, and the measure. Assumes nothing.
+use Prim.Native.Nat.{◌-◌}
 use mathlib.Core.List.{map}
 use lib.Ieee.{to_bits, binary64}
-use mathlib.Core.Path.{◌≡◌, sym, ◌∙◌}
-use lib.ListN.{length, get_or, length-map}
-use Rattle.words.proofs.Laws.{Putting, putting_none, putting_more, putting_done, bits_at}
+use lib.ListN.{length}
+use Rattle.words.proofs.Laws.{Putting}
 use Rattle.words.proofs.put_floats.Given as goal
 
 abbrev pub invariant-loop-i : goal.invariant-loop-i

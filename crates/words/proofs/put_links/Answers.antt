@@ -1,8 +1,5 @@
 -- `words::put_links` meets its contract. Assumes nothing.
-use borrow.Author.Rules.{rules}
-use Prim.Native.Nat.{◌-◌}
-use lib.ListN.{length}
-use Rattle.words.proofs.Laws.{Putting, putting_none, putting_more, putting_done}
+use Rattle.words.proofs.Laws.{putting_none, putting_more, putting_done}
 use Rattle.words.proofs.put_links.Goals as goal
 
 pub loop-i-init : goal.loop-i-init

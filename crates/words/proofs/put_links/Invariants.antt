@@ -1,8 +1,7 @@
--- put_links.Lts
-use borrow.Author.Rules.{rules}
+-- The loops of `words::put_links`: what stays true from turn to turn, and the measure. Assumes nothing.
 use Prim.Native.Nat.{◌-◌}
 use lib.ListN.{length}
-use Rattle.words.proofs.Laws.{Putting, putting_none, putting_more, putting_done}
+use Rattle.words.proofs.Laws.{Putting}
 use Rattle.words.proofs.put_links.Given as goal
 
 abbrev pub invariant-loop-i : goal.invariant-loop-i

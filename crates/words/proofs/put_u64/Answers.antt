@@ -1,5 +1,4 @@
 -- `words::put_u64` meets its contract. Assumes nothing.
-use borrow.Author.Rules.{rules}
 use Prim.Native.Nat.{◌%◌, ◌/◌}
 use Rattle.words.specs.Words.{bytes4}
 use Rattle.words.proofs.Laws.{two_puts}

@@ -2,7 +2,6 @@
 use mathlib.Core.Path.{refl, sym}
 use Rattle.words.specs.Words.{put}
 use Rattle.words.proofs.Laws.{set_zero}
-use borrow.Author.Rules.{rules}
 use Rattle.words.proofs.put_zero.Goals as goal
 
 pub returns-then-out-at-ne0 : goal.returns-then-out-at-ne0

@@ -1,7 +1,6 @@
 -- `words::put_zero_word` meets its contract. Assumes nothing.
 use mathlib.Core.Path.{sym, ◌∙◌}
 use Rattle.words.proofs.Laws.{zero64}
-use borrow.Author.Rules.{rules}
 use Rattle.words.proofs.put_zero_word.Goals as goal
 
 pub returns-then-u64_at-ne0 : goal.returns-then-u64_at-ne0

@@ -1,9 +1,8 @@
 -- `words::put_zeros` meets its contract. Before each turn i zero bytes are out. Assumes nothing.
 use mathlib.Core.Path.{◌≡◌, refl, ap, ◌∙◌}
 use mathlib.Core.List.{List}
-use Prim.Native.Nat.{ℕ, ◌+◌, ◌-◌, ◌≤◌}
+use Prim.Native.Nat.{ℕ, ◌+◌}
 use native.Mathlib.Omega.{arith}
-use lib.ListN.{length}
 use Rattle.words.specs.Words.{put, zeros}
 use Rattle.words.proofs.Laws.{zeros_more}
 use borrow.Author.Rules.{rules}

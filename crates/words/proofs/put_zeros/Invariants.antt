@@ -1,12 +1,8 @@
--- put_zeros.Lts
-use mathlib.Core.Path.{◌≡◌, refl, ap, ◌∙◌}
-use mathlib.Core.List.{List}
-use Prim.Native.Nat.{ℕ, ◌+◌, ◌-◌, ◌≤◌}
-use native.Mathlib.Omega.{arith}
+-- The loops of `words::put_zeros`: what stays true from turn to turn, and the measure. Assumes nothing.
+use mathlib.Core.Path.{◌≡◌}
+use Prim.Native.Nat.{◌-◌, ◌≤◌}
 use lib.ListN.{length}
 use Rattle.words.specs.Words.{put, zeros}
-use Rattle.words.proofs.Laws.{zeros_more}
-use borrow.Author.Rules.{rules}
 use Rattle.words.proofs.put_zeros.Given as goal
 
 abbrev pub invariant-loop-i : goal.invariant-loop-i

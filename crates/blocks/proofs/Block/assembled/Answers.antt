@@ -7,7 +7,6 @@ use Rattle.common.specs.declared.header.Header.{Header}
 use Rattle.blocks.specs.Block.{ref_count, fields_place}
 use Rattle.blocks.proofs.Looking.{seen_open, seen_refs, seen_firstref, seen_firstval}
 use Rattle.blocks.proofs.Joined.{range_room, joined_is}
-use borrow.Author.Rules.{rules}
 use Rattle.blocks.proofs.Block.assembled.Goals as goal
 use Rattle.blocks.proofs.Block.assembled.Goals.{Start}
 

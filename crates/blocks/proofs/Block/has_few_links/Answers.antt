@@ -3,7 +3,6 @@ use mathlib.Core.Path.{ap}
 use Prim.Native.Nat.{ℕ}
 use lib.Dec.{ltb}
 use Rattle.blocks.specs.Block.{few_links}
-use borrow.Author.Rules.{rules}
 use Rattle.blocks.proofs.Block.has_few_links.Goals as goal
 
 pub returns : goal.returns

@@ -2,7 +2,6 @@
 use mathlib.Core.Path.{sym, ◌∙◌}
 use Rattle.common.proofs.Headers.{inside_fits, of_outside, of_other, of_conversion}
 use Rattle.blocks.specs.Block.{retired}
-use borrow.Author.Rules.{rules}
 use Rattle.blocks.proofs.Block.is_retired.Goals as goal
 
 pub is_conversion-requires : goal.is_conversion-requires

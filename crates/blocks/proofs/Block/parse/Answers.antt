@@ -1,7 +1,6 @@
 -- `blocks::Block::parse` meets its contract. Assumes nothing.
 use mathlib.Core.Path.{sym, ◌∙◌}
 use Rattle.blocks.proofs.Opening.{parsed_retired, parsed_read}
-use borrow.Author.Rules.{rules}
 use Rattle.blocks.proofs.Block.parse.Goals as goal
 
 pub returns-then-is_retired : goal.returns-then-is_retired

@@ -1,10 +1,7 @@
 -- `blocks::Block::read` meets its contract. Assumes nothing.
-use mathlib.Core.Path.{◌≡◌, sym, ap, ◌∙◌}
-use Rattle.blocks.specs.View.{seen}
-use Rattle.blocks.specs.declared.view.Seen.TheVariants.{Open}
+use mathlib.Core.Path.{sym, ap, ◌∙◌}
 use Rattle.blocks.specs.declared.Parsed.TheVariants.{Whole}
 use Rattle.blocks.proofs.Looking.{seen_open, seen_cut, seen_room}
-use borrow.Author.Rules.{rules}
 use Rattle.blocks.proofs.Block.read.Goals as goal
 
 pub assembled-requires : goal.assembled-requires

@@ -3,7 +3,6 @@ use mathlib.Core.Path.{ap, ◌∙◌}
 use Rattle.blocks.specs.Place.{reference_of}
 use Rattle.blocks.specs.View.{reference_in}
 use Rattle.blocks.specs.declared.view.View.{View}
-use borrow.Author.Rules.{rules}
 use Rattle.blocks.proofs.Block.reference.Goals as goal
 
 pub returns : goal.returns

@@ -3,7 +3,6 @@ use mathlib.Core.Path.{ap, ◌∙◌}
 use Rattle.blocks.specs.Place.{value_word_of}
 use Rattle.blocks.specs.View.{value_word_in}
 use Rattle.blocks.specs.declared.view.View.{View}
-use borrow.Author.Rules.{rules}
 use Rattle.blocks.proofs.Block.value_word.Goals as goal
 
 pub returns : goal.returns

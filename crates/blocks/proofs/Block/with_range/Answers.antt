@@ -5,7 +5,6 @@ use Prim.Native.Nat.{ℕ}
 use Rattle.blocks.specs.Block.{record_from}
 use Rattle.blocks.specs.Make.{fixed_of, fields_of}
 use Rattle.blocks.specs.declared.Block.{Block}
-use borrow.Author.Rules.{rules}
 use Rattle.blocks.proofs.Block.with_range.Goals as goal
 
 pub returns : goal.returns

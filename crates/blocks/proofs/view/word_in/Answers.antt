@@ -3,7 +3,6 @@ use mathlib.Core.Path.{sym, ap, ◌∙◌}
 use native.Mathlib.Omega.{arith}
 use Rattle.common.specs.declared.refusal.Word.TheVariants.{Bits}
 use Rattle.blocks.proofs.Places.{word_there, word_past_count, word_past_image}
-use borrow.Author.Rules.{rules}
 use Rattle.blocks.proofs.view.word_in.Goals as goal
 
 pub returns-then-i-end : goal.returns-then-i-end

@@ -2,7 +2,6 @@
 use Rattle.words.specs.Words.{bytes4, bytes8}
 use Rattle.words.proofs.Laws.{four_puts}
 use Rattle.common.specs.Header.{header_bytes}
-use borrow.Author.Rules.{rules}
 use Rattle.common.proofs.header.put_header.Goals as goal
 
 pub returns : goal.returns

@@ -10,7 +10,6 @@ use Rattle.common.specs.Header.{header_at, has_id}
 use Rattle.common.specs.declared.header.Header.{Header}
 use Rattle.common.specs.declared.text.Text.TheVariants.{Part}
 use Rattle.common.proofs.Texts.{run_other, run_under, run_cut, run_whole}
-use borrow.Author.Rules.{rules}
 use Rattle.common.proofs.text.run_at.Goals as goal
 
 -- what the header says, of the image

@@ -2,7 +2,6 @@
 use mathlib.Core.Path.{sym, ◌∙◌}
 use Rattle.common.proofs.Headers.{inside_fits}
 use Rattle.common.proofs.Texts.{run_nil, run_inside, run_outside}
-use borrow.Author.Rules.{rules}
 use Rattle.common.proofs.text.run_of.Goals as goal
 
 pub returns-then-link-eq0 : goal.returns-then-link-eq0

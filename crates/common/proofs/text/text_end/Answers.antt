@@ -1,14 +1,10 @@
 -- `common::text::text_end` meets its contract. Assumes nothing.
 use borrow.Author.Rules.{rules}
-use mathlib.Core.Path.{◌≡◌, refl, ap}
-use Prim.Native.Nat.{ℕ, ◌+◌, ◌-◌, ◌≤◌}
+use mathlib.Core.Path.{refl, ap}
 use native.Mathlib.Omega.{arith}
 use lib.ListN.{length}
-use mathlib.Core.List.{List}
-use Rattle.common.specs.Text.{text_bytes}
 use Rattle.common.proofs.Texts.{bytes_zero, bytes_more, bytes_none}
 use Rattle.common.proofs.text.text_end.Goals as goal
-use Rattle.common.proofs.text.text_end.Invariants.{left}
 
 pub loop-i-init : goal.loop-i-init
 loop-i-init c = (search rules, (search rules, (search rules, refl)))

@@ -1,12 +1,9 @@
--- text.text_end.Lts
-use borrow.Author.Rules.{rules}
-use mathlib.Core.Path.{◌≡◌, refl, ap}
+-- The loops of `common::text::text_end`: what stays true from turn to turn, and the measure. Assumes nothing.
+use mathlib.Core.Path.{◌≡◌}
 use Prim.Native.Nat.{ℕ, ◌+◌, ◌-◌, ◌≤◌}
-use native.Mathlib.Omega.{arith}
 use lib.ListN.{length}
 use mathlib.Core.List.{List}
 use Rattle.common.specs.Text.{text_bytes}
-use Rattle.common.proofs.Texts.{bytes_zero, bytes_more, bytes_none}
 use Rattle.common.proofs.text.text_end.Given as goal
 
 -- how many bytes of the text are left

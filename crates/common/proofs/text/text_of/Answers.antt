@@ -3,7 +3,6 @@ use mathlib.Core.Path.{sym, ap, subst, ◌∙◌}
 use Rattle.common.specs.Text.{text_of, cut_off, TextIn}
 use Rattle.common.specs.declared.text.Text.TheVariants.{Part}
 use Rattle.common.proofs.Texts.{run_within}
-use borrow.Author.Rules.{rules}
 use Rattle.common.proofs.text.text_of.Goals as goal
 
 pub text_end-requires : goal.text_end-requires

@@ -2,7 +2,6 @@
 use mathlib.Core.Path.{ap, ◌∙◌}
 use Rattle.steps.specs.declared.mode.Mode.{Mode}
 use Rattle.conversion.specs.Entry.{applying}
-use borrow.Author.Rules.{rules}
 use Rattle.conversion.proofs.logic.apply.Goals as goal
 
 pub returns : goal.returns

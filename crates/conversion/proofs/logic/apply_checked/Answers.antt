@@ -7,7 +7,6 @@ use Rattle.pieces.specs.Did.{Says}
 use Rattle.engine.specs.Apply.{applied}
 use Rattle.conversion.proofs.Demand.{visits_fit}
 use Rattle.conversion.proofs.Settling.{untouched, answered_from, settle}
-use borrow.Author.Rules.{rules}
 use Rattle.conversion.proofs.logic.apply_checked.Goals as goal
 
 pub apply-x-requires : goal.apply-x-requires

@@ -4,7 +4,6 @@ use Rattle.tree.specs.declared.Checked.{Checked}
 use Rattle.engine.specs.Apply.{applied}
 use Rattle.conversion.specs.Entry.{call, by_check, settled, applying}
 use Rattle.conversion.specs.declared.logic.Applied.{Applied}
-use borrow.Author.Rules.{rules}
 use Rattle.conversion.proofs.logic.apply_in.Goals as goal
 
 pub apply_checked-requires : goal.apply_checked-requires

@@ -8,7 +8,6 @@ use Rattle.common.specs.Text.{text_bytes}
 use Rattle.common.proofs.Texts.{bytes_short}
 use Rattle.pieces.proofs.Laws.{looked_part}
 use Rattle.conversion.proofs.Settling.{too_long, fitting, same_text}
-use borrow.Author.Rules.{rules}
 use Rattle.conversion.proofs.logic.lay_run.Goals as goal
 
 pub returns-then-out-size : goal.returns-then-out-size

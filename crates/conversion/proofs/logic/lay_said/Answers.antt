@@ -3,7 +3,7 @@ use mathlib.Core.Path.{subst}
 use native.Mathlib.Omega.{arith}
 use Rattle.pieces.specs.Did.{SaidIn}
 use Rattle.conversion.proofs.Settling.{laid_none}
-use borrow.Author.Rules.{rules}
+use borrow.Enum.Refused.{opened}
 use Rattle.conversion.proofs.logic.lay_said.Goals as goal
 
 pub paste-requires : goal.paste-requires
@@ -17,4 +17,4 @@ returns-in-Words c = rw c.in-Words.is c.paste.ensures.wrote
 pub returns-in_default : goal.returns-in_default
 returns-in_default c =
     let a = c.args in
-    laid_none a.image.now a.lim a.out.now a.said c.in_default.in_default-own.keys2
+    laid_none a.image.now a.lim a.out.now a.said (opened c.in_default.in_default-own.keys2)

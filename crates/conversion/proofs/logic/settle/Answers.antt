@@ -6,7 +6,6 @@ use Rattle.pieces.specs.declared.said.Said.TheVariants as said
 use Rattle.pieces.proofs.Answers.{said_in}
 use Rattle.engine.specs.Apply.{applied}
 use Rattle.conversion.proofs.Settling.{quietly, run_said}
-use borrow.Author.Rules.{rules}
 use Rattle.conversion.proofs.logic.settle.Goals as goal
 
 pub lay_run-requires : goal.lay_run-requires

@@ -3,7 +3,6 @@ use native.Mathlib.Omega.{arith}
 use Rattle.pieces.proofs.Answers.{did_in}
 use Rattle.engine.specs.Apply.{applied}
 use Rattle.conversion.proofs.Settling.{no_room, written}
-use borrow.Author.Rules.{rules}
 use Rattle.conversion.proofs.logic.write_text.Goals as goal
 
 pub returns-then-out-size : goal.returns-then-out-size

@@ -4,7 +4,6 @@ use Rattle.blocks.specs.View.{seen}
 use Rattle.tree.specs.declared.Checked.{Checked}
 use Rattle.tree.proofs.Acceptance.{acceptance}
 use Rattle.conversion.specs.Shown.{of_block, of_check, shown_for}
-use borrow.Author.Rules.{rules}
 use Rattle.conversion.proofs.shown.shown_for.Goals as goal
 
 pub shown_by-requires : goal.shown_by-requires

@@ -10,9 +10,10 @@ overflow_sub-length c = subst InOrder c.in-Found.is c.requires
 
 pub returns-in-Found : goal.returns-in-Found
 returns-in-Found c =
-    let t = c.before.before.t.given in
-    ap (λ (n : ℕ). record { refusal = 0; id = n; address = 0; start = t.0.1.0; length = t.0.1.1.0 - t.0.1.0 }) c.id_number.ensures
-    ∙ ap text_face (sym t.1)
+    let from = c.in-Found.from in
+    let to = c.in-Found.to in
+    ap (λ (n : ℕ). record { refusal = 0; id = n; address = 0; start = from; length = to - from }) c.id_number.ensures
+    ∙ ap text_face (sym c.in-Found.is)
 
 pub returns-in-Unread : goal.returns-in-Unread
 returns-in-Unread c = rw (c.in-Unread.is, c.number.ensures, c.address_or.ensures, c.address.ensures)

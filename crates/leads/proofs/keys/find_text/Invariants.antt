@@ -1,11 +1,7 @@
--- keys.find_text.Lts
-use borrow.Author.Rules.{rules}
-use mathlib.Core.Path.{◌≡◌, sym, ap, ◌∙◌}
-use Prim.Native.Nat.{◌+◌, ◌-◌, ◌≤◌}
-use native.Mathlib.Nat.{mul-le-mul_right}
-use native.Mathlib.Omega.{arith}
+-- The loops of `leads::keys::find_text`: what stays true from turn to turn, and the measure. Assumes nothing.
+use mathlib.Core.Path.{◌≡◌}
+use Prim.Native.Nat.{◌-◌, ◌≤◌}
 use Rattle.leads.specs.Keys.{first_text}
-use Rattle.leads.proofs.Leads.{key_here, key_later, no_key}
 use Rattle.leads.proofs.keys.find_text.Given as goal
 
 abbrev pub invariant-loop-j : goal.invariant-loop-j

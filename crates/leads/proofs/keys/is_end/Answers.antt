@@ -1,7 +1,6 @@
 -- `leads::keys::is_end` meets its contract. Assumes nothing.
 use mathlib.Core.Path.{sym}
 use Rattle.leads.proofs.Same.{end_byte, end_run}
-use borrow.Author.Rules.{rules}
 use Rattle.leads.proofs.keys.is_end.Goals as goal
 
 pub returns-then-p-to : goal.returns-then-p-to

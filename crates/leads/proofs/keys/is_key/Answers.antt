@@ -3,7 +3,6 @@ use mathlib.Core.Path.{sym, ap, subst, ◌∙◌}
 use Rattle.leads.specs.Lead.{LeadIn}
 use Rattle.leads.specs.Keys.{is_key}
 use Rattle.leads.proofs.Leads.{lead_at_inside}
-use borrow.Author.Rules.{rules}
 use Rattle.leads.proofs.keys.is_key.Goals as goal
 
 pub is_same-requires : goal.is_same-requires

@@ -1,11 +1,6 @@
 -- `leads::keys::is_same` meets its contract. Assumes nothing.
-use borrow.Author.Rules.{rules}
-use mathlib.Core.Path.{◌≡◌, refl, sym, ◌∙◌}
-use Prim.Native.Nat.{◌+◌, ◌-◌, ◌≤◌}
+use mathlib.Core.Path.{refl, sym, ◌∙◌}
 use native.Mathlib.Omega.{arith}
-use lib.ListN.{length, drop}
-use Rattle.common.specs.Text.{text_bytes}
-use Rattle.leads.specs.Keys.{same_bytes}
 use Rattle.leads.proofs.Same.{same_longer, same_ended, same_more, same_stop, same_all}
 use Rattle.leads.proofs.keys.is_same.Goals as goal
 

@@ -1,12 +1,9 @@
--- keys.is_same.Lts
-use borrow.Author.Rules.{rules}
-use mathlib.Core.Path.{◌≡◌, refl, sym, ◌∙◌}
+-- The loops of `leads::keys::is_same`: what stays true from turn to turn, and the measure. Assumes nothing.
+use mathlib.Core.Path.{◌≡◌}
 use Prim.Native.Nat.{◌+◌, ◌-◌, ◌≤◌}
-use native.Mathlib.Omega.{arith}
 use lib.ListN.{length, drop}
 use Rattle.common.specs.Text.{text_bytes}
 use Rattle.leads.specs.Keys.{same_bytes}
-use Rattle.leads.proofs.Same.{same_longer, same_ended, same_more, same_stop, same_all}
 use Rattle.leads.proofs.keys.is_same.Given as goal
 
 abbrev pub invariant-loop-i : goal.invariant-loop-i

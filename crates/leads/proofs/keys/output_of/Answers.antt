@@ -1,6 +1,5 @@
 -- `leads::keys::output_of` meets its contract. Assumes nothing.
 use borrow.Author.Tests.{lt-ltb, le-ltb}
-use borrow.Author.Rules.{rules}
 use Rattle.leads.proofs.keys.output_of.Goals as goal
 
 pub returns-then-j-pairs : goal.returns-then-j-pairs

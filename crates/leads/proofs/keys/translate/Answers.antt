@@ -3,7 +3,6 @@ use mathlib.Core.Path.{◌≡◌, ap, ◌∙◌}
 use Prim.Native.Nat.{ℕ}
 use Rattle.leads.specs.Lead.{lead_at}
 use Rattle.leads.specs.Keys.{first_text, pair_count, output_at, translated}
-use borrow.Author.Rules.{rules}
 use Rattle.leads.proofs.keys.translate.Goals as goal
 
 pub returns : goal.returns

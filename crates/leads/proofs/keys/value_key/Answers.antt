@@ -1,6 +1,5 @@
 -- `leads::keys::value_key` meets its contract. Assumes nothing.
 use Rattle.leads.specs.Keys.{value_key}
-use borrow.Author.Rules.{rules}
 use Rattle.leads.proofs.keys.value_key.Goals as goal
 
 pub returns : goal.returns

@@ -1,7 +1,6 @@
 -- `leads::lead::lead_at` meets its contract. Assumes nothing.
 use mathlib.Core.Path.{sym, ap, ◌∙◌}
 use Rattle.leads.specs.Lead.{lead_at, by_link}
-use borrow.Author.Rules.{rules}
 use Rattle.leads.proofs.lead.lead_at.Goals as goal
 
 pub returns-in-Bits : goal.returns-in-Bits

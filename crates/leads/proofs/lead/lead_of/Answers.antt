@@ -3,7 +3,6 @@ use mathlib.Core.Path.{sym, ap, ◌∙◌}
 use borrow.Author.Tests.{eq-eqb, ne_eqb}
 use Rattle.common.specs.declared.text.Text.{Text}
 use Rattle.leads.specs.Lead.{lead_of, nested_at, by_text}
-use borrow.Author.Rules.{rules}
 use Rattle.leads.proofs.lead.lead_of.Goals as goal
 
 pub returns-then-link-eq0 : goal.returns-then-link-eq0

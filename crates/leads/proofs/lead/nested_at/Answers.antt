@@ -2,7 +2,6 @@
 use mathlib.Core.Path.{sym, ◌∙◌}
 use Rattle.common.proofs.Headers.{inside_fits}
 use Rattle.leads.specs.Lead.{nested_at}
-use borrow.Author.Rules.{rules}
 use Rattle.leads.proofs.lead.nested_at.Goals as goal
 
 pub is_conversion-requires : goal.is_conversion-requires

@@ -4,7 +4,6 @@ use Prim.Native.Nat.{◌+◌}
 use native.Mathlib.Omega.{arith}
 use lib.ListN.{length}
 use borrow.Author.Tests.{le-leb, lt-leb}
-use borrow.Author.Rules.{rules}
 use Rattle.common.specs.Text.{run_of}
 use Rattle.pieces.specs.Label.{name_at}
 use Rattle.pieces.proofs.label.name_at.Goals as goal

@@ -2,7 +2,6 @@
 use native.Mathlib.Omega.{arith}
 use Rattle.pieces.specs.Label.{bar}
 use Rattle.pieces.proofs.Laws.{empty}
-use borrow.Author.Rules.{rules}
 use Rattle.pieces.proofs.label.paste_bar.Goals as goal
 
 pub returns-then-started : goal.returns-then-started

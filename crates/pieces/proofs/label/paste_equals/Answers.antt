@@ -1,7 +1,6 @@
 -- `pieces::label::paste_equals` meets its contract. Assumes nothing.
 use native.Mathlib.Omega.{arith}
 use Rattle.pieces.proofs.Laws.{then}
-use borrow.Author.Rules.{rules}
 use Rattle.pieces.proofs.label.paste_equals.Goals as goal
 
 pub returns : goal.returns

@@ -2,7 +2,6 @@
 use native.Mathlib.Omega.{arith}
 use Rattle.pieces.specs.Label.{label}
 use Rattle.pieces.proofs.Laws.{then}
-use borrow.Author.Rules.{rules}
 use Rattle.pieces.proofs.label.paste_label.Goals as goal
 
 pub returns : goal.returns

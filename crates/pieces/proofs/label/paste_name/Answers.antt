@@ -4,7 +4,6 @@ use native.Mathlib.Omega.{arith}
 use Rattle.common.specs.Text.{TextIn}
 use Rattle.pieces.proofs.Laws.{empty, then}
 use Rattle.pieces.proofs.Names.{name_within}
-use borrow.Author.Rules.{rules}
 use Rattle.pieces.proofs.label.paste_name.Goals as goal
 
 pub paste-p-requires : goal.paste-p-requires

@@ -1,11 +1,8 @@
 -- `pieces::paste::copy` meets its contract. The invariant: the bytes up to i stand in the output. Assumes nothing.
 use mathlib.Core.Path.{◌≡◌}
-use Prim.Native.Nat.{◌+◌, ◌-◌, ◌≤◌}
+use Prim.Native.Nat.{◌-◌}
 use native.Mathlib.Omega.{arith}
 use lib.ListN.{drop, length-drop}
-use Rattle.words.specs.Words.{part}
-use borrow.Author.Rules.{rules}
-use Rattle.pieces.specs.Write.{Wrote}
 use Rattle.pieces.proofs.Laws.{longer, part_start, part_more}
 use Rattle.pieces.proofs.paste.copy.Goals as goal
 

@@ -1,12 +1,8 @@
--- paste.copy.Lts
+-- The loops of `pieces::paste::copy`: what stays true from turn to turn, and the measure. Assumes nothing.
 use mathlib.Core.Path.{◌≡◌}
 use Prim.Native.Nat.{◌+◌, ◌-◌, ◌≤◌}
-use native.Mathlib.Omega.{arith}
-use lib.ListN.{drop, length-drop}
 use Rattle.words.specs.Words.{part}
-use borrow.Author.Rules.{rules}
 use Rattle.pieces.specs.Write.{Wrote}
-use Rattle.pieces.proofs.Laws.{longer, part_start, part_more}
 use Rattle.pieces.proofs.paste.copy.Given as goal
 
 abbrev pub invariant-loop-i : goal.invariant-loop-i

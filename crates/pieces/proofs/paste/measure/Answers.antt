@@ -4,7 +4,6 @@ use Prim.Native.Nat.{ℕ, ◌+◌, ◌-◌}
 use lib.ListN.{length}
 use Rattle.common.specs.Text.{text_bytes}
 use Rattle.pieces.proofs.Laws.{looked_at}
-use borrow.Author.Rules.{rules}
 use Rattle.pieces.proofs.paste.measure.Goals as goal
 
 pub returns : goal.returns

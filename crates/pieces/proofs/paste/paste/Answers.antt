@@ -6,7 +6,6 @@ use lib.ListN.{length}
 use Rattle.common.specs.Text.{text_bytes}
 use Rattle.common.proofs.Texts.{bytes_short}
 use Rattle.pieces.proofs.Laws.{looked_part, text_put}
-use borrow.Author.Rules.{rules}
 use Rattle.pieces.proofs.paste.paste.Goals as goal
 
 pub copy-requires : goal.copy-requires

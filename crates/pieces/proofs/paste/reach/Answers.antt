@@ -1,6 +1,5 @@
 -- `pieces::paste::reach` meets its contract. Assumes nothing.
 use native.Mathlib.Omega.{arith}
-use borrow.Author.Rules.{rules}
 use Rattle.pieces.proofs.paste.reach.Goals as goal
 
 pub returns-then-room-pos : goal.returns-then-room-pos

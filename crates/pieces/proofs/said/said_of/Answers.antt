@@ -1,7 +1,6 @@
 -- `pieces::said::said_of` meets its contract. Assumes nothing.
 use mathlib.Core.Path.{sym, ap}
 use Rattle.pieces.specs.Did.{said_of}
-use borrow.Author.Rules.{rules}
 use Rattle.pieces.proofs.said.said_of.Goals as goal
 
 pub returns-in-Number : goal.returns-in-Number

@@ -1,7 +1,6 @@
 -- `pieces::said::told` meets its contract. Assumes nothing.
 use mathlib.Core.Path.{ap, ◌∙◌}
 use Rattle.pieces.specs.Did.{quiet_of}
-use borrow.Author.Rules.{rules}
 use Rattle.pieces.proofs.said.told.Goals as goal
 
 pub returns : goal.returns

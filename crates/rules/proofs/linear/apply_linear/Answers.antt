@@ -2,7 +2,6 @@
 use mathlib.Core.Path.{sym}
 use native.Mathlib.Omega.{arith}
 use Rattle.rules.proofs.Steps.{linear_few, linear_two}
-use borrow.Author.Rules.{rules}
 use Rattle.rules.proofs.linear.apply_linear.Goals as goal
 
 pub returns-then-n-lt2 : goal.returns-then-n-lt2

@@ -2,7 +2,6 @@
 use mathlib.Core.Path.{sym}
 use native.Mathlib.Omega.{arith}
 use Rattle.rules.proofs.Steps.{rational_few, rational_six}
-use borrow.Author.Rules.{rules}
 use Rattle.rules.proofs.linear.apply_rational.Goals as goal
 
 pub returns-then-n-lt6 : goal.returns-then-n-lt6

@@ -1,5 +1,4 @@
 -- `rules::linear::polynomial` meets its contract. Assumes nothing.
-use borrow.Author.Rules.{rules}
 use Rattle.rules.proofs.linear.polynomial.Goals as goal
 
 pub returns : goal.returns

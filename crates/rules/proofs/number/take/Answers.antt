@@ -14,9 +14,8 @@ returns-in-Unsigned c = ap (λ (y : Ieee.Float). Number y true) c.from_u64.ensur
 
 pub returns-in-Signed : goal.returns-in-Signed
 returns-in-Signed c =
-    let k = c.in-Signed.known_told-in-Signed-1-own.given in
     let z = c.in-Signed.n in
-    ap (λ (y : Ieee.Float). Number y true) (c.from_i64.ensures ∙ ap (Ieee.of_int Ieee.binary64) (to_z-of_z w64 z ((search rules)))) ∙ ap taken (sym c.in-Signed.is)
+    ap (λ (y : Ieee.Float). Number y true) (c.from_i64.ensures ∙ ap (Ieee.of_int Ieee.binary64) (to_z-of_z w64 z (search rules))) ∙ ap taken (sym c.in-Signed.is)
 
 pub returns-in-Float : goal.returns-in-Float
 returns-in-Float c = ap taken (sym c.in-Float.is)

@@ -2,7 +2,6 @@
 use mathlib.Core.Path.{ap, ◌∙◌}
 use lib.Ieee.{binary64, of_bits}
 use Rattle.words.specs.Words.{value_at}
-use borrow.Author.Rules.{rules}
 use Rattle.rules.proofs.number.value_at.Goals as goal
 
 pub returns : goal.returns

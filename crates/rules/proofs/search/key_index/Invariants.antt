@@ -1,14 +1,8 @@
--- search.key_index.Lts
-use borrow.Author.Rules.{rules}
-use mathlib.Core.Path.{◌≡◌, sym, ap, ◌∙◌}
-use mathlib.Core.Bool.{true, false}
-use Prim.Native.Nat.{ℕ, ◌+◌, ◌-◌, ◌*◌, ◌≤◌}
-use native.Mathlib.Omega.{arith}
-use lib.Ieee.{eq}
-use Rattle.words.specs.Words.{value_at}
+-- The loops of `rules::search::key_index`: what stays true from turn to turn, and the measure. Assumes nothing.
+use mathlib.Core.Path.{◌≡◌}
+use Prim.Native.Nat.{◌+◌, ◌-◌, ◌*◌, ◌≤◌}
 use Rattle.rules.specs.Values.{values}
 use Rattle.rules.specs.Search.{first_key}
-use Rattle.rules.proofs.Steps.{key_none, key_hit, key_miss}
 use Rattle.rules.proofs.search.key_index.Given as goal
 
 abbrev pub invariant-loop-i : goal.invariant-loop-i

@@ -1,14 +1,8 @@
--- search.range_index.Lts
-use borrow.Author.Rules.{rules}
-use mathlib.Core.Path.{◌≡◌, sym, ap, ◌∙◌}
-use mathlib.Core.Bool.{true, false}
-use Prim.Native.Nat.{ℕ, ◌+◌, ◌-◌, ◌*◌, ◌≤◌}
-use native.Mathlib.Omega.{arith}
-use Rattle.words.specs.Words.{value_at}
+-- The loops of `rules::search::range_index`: what stays true from turn to turn, and the measure. Assumes nothing.
+use mathlib.Core.Path.{◌≡◌}
+use Prim.Native.Nat.{◌+◌, ◌-◌, ◌*◌, ◌≤◌}
 use Rattle.rules.specs.Values.{values}
-use Rattle.rules.specs.Table.{holds}
 use Rattle.rules.specs.Search.{first_range}
-use Rattle.rules.proofs.Steps.{range_none, range_hit, range_miss}
 use Rattle.rules.proofs.search.range_index.Given as goal
 
 abbrev pub invariant-loop-i : goal.invariant-loop-i

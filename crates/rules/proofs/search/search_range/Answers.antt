@@ -3,7 +3,6 @@ use mathlib.Core.Path.{sym, ap, ◌∙◌}
 use Prim.Native.Nat.{ℕ, ◌/◌}
 use Rattle.rules.specs.Search.{searched}
 use Rattle.rules.proofs.Steps.{range_malformed, range_searched}
-use borrow.Author.Rules.{rules}
 use Rattle.rules.proofs.search.search_range.Goals as goal
 
 pub returns-then-is_malformed_length : goal.returns-then-is_malformed_length

@@ -1,13 +1,10 @@
 -- `rules::table_lookup::apply_range_value` meets its contract. Assumes nothing.
-use borrow.Author.Rules.{rules}
 use mathlib.Core.Path.{◌≡◌, sym, ◌∙◌}
 use mathlib.Core.Bool.{true, false}
-use Prim.Native.Nat.{◌+◌, ◌*◌, ◌%◌, ◌≤◌}
+use Prim.Native.Nat.{◌+◌}
 use native.Mathlib.Omega.{arith}
-use lib.ListN.{length}
 use Rattle.words.specs.Words.{value_at}
-use Rattle.rules.specs.Values.{values}
-use Rattle.rules.specs.Table.{holds, first_triple, range_value}
+use Rattle.rules.specs.Table.{holds}
 use Rattle.rules.proofs.Steps.{triple_last, triple_hit, triple_miss, range_value_few, range_value_bad, range_value_good}
 use Rattle.rules.proofs.table_lookup.apply_range_value.Goals as goal
 

@@ -1,14 +1,9 @@
--- table_lookup.apply_range_value.Lts
-use borrow.Author.Rules.{rules}
-use mathlib.Core.Path.{◌≡◌, sym, ◌∙◌}
-use mathlib.Core.Bool.{true, false}
+-- The loops of `rules::table_lookup::apply_range_value`: what stays true from turn to turn, and the measure. Assumes nothing.
+use mathlib.Core.Path.{◌≡◌}
 use Prim.Native.Nat.{◌+◌, ◌*◌, ◌%◌, ◌≤◌}
-use native.Mathlib.Omega.{arith}
 use lib.ListN.{length}
-use Rattle.words.specs.Words.{value_at}
 use Rattle.rules.specs.Values.{values}
-use Rattle.rules.specs.Table.{holds, first_triple, range_value}
-use Rattle.rules.proofs.Steps.{triple_last, triple_hit, triple_miss, range_value_few, range_value_bad, range_value_good}
+use Rattle.rules.specs.Table.{first_triple, range_value}
 use Rattle.rules.proofs.table_lookup.apply_range_value.Given as goal
 
 abbrev pub invariant-loop-left : goal.invariant-loop-left

@@ -1,13 +1,11 @@
 -- `rules::table_lookup::apply_scan` meets its contract. Assumes nothing.
-use borrow.Author.Rules.{rules}
 use mathlib.Core.Path.{◌≡◌, refl, sym, ◌∙◌}
 use mathlib.Core.Bool.{true, false, ◌&&◌}
-use Prim.Native.Nat.{◌+◌, ◌*◌, ◌≤◌}
+use Prim.Native.Nat.{◌+◌}
 use native.Mathlib.Omega.{arith}
-use lib.ListN.{length}
 use lib.Ieee.{le}
 use Rattle.words.specs.Words.{value_at}
-use Rattle.rules.proofs.Steps.{scan_at, scan_none, scan_hit, scan_miss}
+use Rattle.rules.proofs.Steps.{scan_none, scan_hit, scan_miss}
 use Rattle.rules.proofs.table_lookup.apply_scan.Goals as goal
 
 pub loop-left-init : goal.loop-left-init

@@ -1,13 +1,9 @@
--- table_lookup.apply_scan.Lts
-use borrow.Author.Rules.{rules}
-use mathlib.Core.Path.{◌≡◌, refl, sym, ◌∙◌}
-use mathlib.Core.Bool.{true, false, ◌&&◌}
+-- The loops of `rules::table_lookup::apply_scan`: what stays true from turn to turn, and the measure. Assumes nothing.
+use mathlib.Core.Path.{◌≡◌}
 use Prim.Native.Nat.{◌+◌, ◌*◌, ◌≤◌}
-use native.Mathlib.Omega.{arith}
 use lib.ListN.{length}
-use lib.Ieee.{le}
 use Rattle.words.specs.Words.{value_at}
-use Rattle.rules.proofs.Steps.{scan_at, scan_none, scan_hit, scan_miss}
+use Rattle.rules.proofs.Steps.{scan_at}
 use Rattle.rules.proofs.table_lookup.apply_scan.Given as goal
 
 abbrev pub invariant-loop-left : goal.invariant-loop-left

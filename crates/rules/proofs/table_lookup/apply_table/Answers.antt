@@ -6,7 +6,6 @@ use native.Mathlib.Omega.{arith}
 use lib.Ieee.{le}
 use Rattle.words.specs.Words.{value_at}
 use Rattle.rules.proofs.Steps.{table_few, table_odd, table_first, table_last, table_scan}
-use borrow.Author.Rules.{rules}
 use Rattle.rules.proofs.table_lookup.apply_table.Goals as goal
 
 pub returns-then-n-lt2 : goal.returns-then-n-lt2

@@ -1,5 +1,4 @@
 -- `rules::table_lookup::is_held_at` meets its contract. Assumes nothing.
-use borrow.Author.Rules.{rules}
 use mathlib.Core.Path.{sym, ap, ◌∙◌}
 use Prim.Native.Nat.{◌+◌}
 use lib.Ieee.{Float, le}

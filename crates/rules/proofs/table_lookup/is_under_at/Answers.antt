@@ -1,5 +1,4 @@
 -- `rules::table_lookup::is_under_at` meets its contract. Assumes nothing.
-use borrow.Author.Rules.{rules}
 use mathlib.Core.Path.{◌≡◌, sym, ap, ◌∙◌}
 use mathlib.Core.Bool.{true, cond}
 use lib.Ieee.{Float, binary64, of_bits, nan_bits, le, lt}

@@ -3,7 +3,6 @@ use mathlib.Core.Path.{sym, ap, ◌∙◌}
 use mathlib.Core.Bool.{false}
 use Rattle.rules.specs.declared.search.Searched.{Searched}
 use Rattle.steps.specs.Choice.{by_reference, chosen_key}
-use borrow.Author.Rules.{rules}
 use Rattle.steps.proofs.choice.chosen_key.Goals as goal
 
 pub returns-in-Number : goal.returns-in-Number

@@ -5,16 +5,14 @@ use Rattle.rules.specs.Values.{values}
 use Rattle.rules.specs.Search.{is_malformed, range_search}
 use Rattle.rules.specs.declared.search.Searched.{Searched}
 use Rattle.steps.specs.Choice.{by_reference, chosen_range, malformed_range}
-use borrow.Author.Rules.{rules}
 use Rattle.steps.proofs.choice.chosen_range.Goals as goal
 
 pub returns-in-Number : goal.returns-in-Number
 returns-in-Number c =
     let s = c.args in
     let img = s.image.now in
-    let taken = c.before.before.before.before.before.x.given.0 in
     let took = sym c.in-Number.is ∙ c.take.ensures in
-    let found : c.search_range-s.result ≡ range_search taken.1.0 (values img s.b.firstval s.b.valcount) taken.0 =
+    let found : c.search_range-s.result ≡ range_search c.in-Number.whole (values img s.b.firstval s.b.valcount) c.in-Number.x =
     c.search_range-s.ensures in (
       c.follow-choice.ensures.0
           ∙ ap (λ (q : Searched). by_reference img s.b q true) found

@@ -2,7 +2,6 @@
 use mathlib.Core.Path.{subst, ◌∙◌}
 use native.Mathlib.Omega.{arith}
 use Rattle.leads.specs.Lead.{LeadIn}
-use borrow.Author.Rules.{rules}
 use Rattle.steps.proofs.choice.decide.Goals as goal
 
 pub returns-in-Words : goal.returns-in-Words

@@ -5,7 +5,7 @@ use Rattle.leads.proofs.Leads.{lead_at_inside}
 use Rattle.steps.specs.Choice.{if_conversion}
 use Rattle.steps.proofs.Choices.{last_of_many, last_of_few}
 use Rattle.steps.proofs.Others.{no_conversion}
-use borrow.Author.Rules.{rules}
+use borrow.Enum.Refused.{opened}
 use Rattle.steps.proofs.choice.default_of.Goals as goal
 
 pub returns-in-Nested : goal.returns-in-Nested
@@ -22,7 +22,7 @@ returns-in_default c =
     let s = c.args in
     let l = c.lead_at in
     let last = last_of_many s.image.now s.b c.if-refs-gt2.true l.result l.ensures in
-    (rw c.if-fallback.true (sym (last ∙ no_conversion l.result c.in_default.in_default-own.keys2)), tt)
+    (rw c.if-fallback.true (sym (last ∙ no_conversion l.result (opened c.in_default.in_default-own.keys2))), tt)
 
 pub returns-else-refs-gt2 : goal.returns-else-refs-gt2
 returns-else-refs-gt2 c =

@@ -6,7 +6,6 @@ use Rattle.leads.specs.declared.lead.Lead.{Lead}
 use Rattle.leads.proofs.Leads.{lead_at_inside}
 use Rattle.rules.specs.Search.{deciding, is_match}
 use Rattle.steps.specs.Choice.{default_of, decided}
-use borrow.Author.Rules.{rules}
 use Rattle.steps.proofs.choice.follow.Goals as goal
 
 pub decide-requires : goal.decide-requires

@@ -18,5 +18,5 @@ pub returns-in-Signed : goal.returns-in-Signed
 returns-in-Signed c =
     let s = c.args in
     let z = c.in-Signed.n in
-    let bits = c.bits_of_i64.ensures ∙ ap twos (to_z-of_z w64 z ((search rules))) in
+    let bits = c.bits_of_i64.ensures ∙ ap twos (to_z-of_z w64 z (search rules)) in
     ap Bits (c.low_bits-in-Signed.ensures ∙ ap (λ (n : ℕ). n % 2 ^ s.mode.width) bits) ∙ ap (bits_of s.mode) (sym c.in-Signed.is)

@@ -1,13 +1,8 @@
 -- `steps::mode::low_bits` meets its contract. Assumes nothing.
 use mathlib.Core.Path.{ap, sym}
 use Prim.Native.Nat.{ℕ, ◌%◌}
-use lib.Pow.{pow_pos}
 use Rattle.steps.proofs.Low.{one_shifted, low_of_wide}
-use borrow.Author.Rules.{rules}
 use Rattle.steps.proofs.mode.low_bits.Goals as goal
-
--- TODO rem-result : tie.Need-nonzero-rem-result
--- rem-result c = rw (one_shifted c.before.args.width c.if1.true) (pow_pos _)
 
 pub returns-then-width-lt64 : goal.returns-then-width-lt64
 returns-then-width-lt64 c = ap (λ (k : ℕ). c.args.bits % k) (one_shifted c.args.width c.if-width-lt64.true)

@@ -5,7 +5,7 @@ use Rattle.rules.specs.Values.{values}
 use Rattle.steps.specs.Plain.{by_number}
 use Rattle.steps.specs.declared.plain.Plain.TheVariants.{Number}
 use Rattle.steps.proofs.Others.{no_rule}
-use borrow.Author.Rules.{rules}
+use borrow.Enum.Refused.{opened}
 use Rattle.steps.proofs.plain.by_number.Goals as goal
 
 pub returns-in-Linear : goal.returns-in-Linear
@@ -47,4 +47,4 @@ returns-in-RangeToValue c =
 pub returns-in_default : goal.returns-in_default
 returns-in_default c =
     let a = c.args in
-    sym (no_rule a.kind a.whole (values a.image.now a.b.firstval a.b.valcount) a.x c.in_default.in_default-own.keys7)
+    sym (no_rule a.kind a.whole (values a.image.now a.b.firstval a.b.valcount) a.x (opened c.in_default.in_default-own.keys7))

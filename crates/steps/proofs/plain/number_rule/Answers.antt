@@ -2,7 +2,6 @@
 use mathlib.Core.Path.{sym, ap, ◌∙◌}
 use Rattle.rules.specs.Values.{values}
 use Rattle.steps.specs.Plain.{by_taken}
-use borrow.Author.Rules.{rules}
 use Rattle.steps.proofs.plain.number_rule.Goals as goal
 
 pub returns-in-Number : goal.returns-in-Number

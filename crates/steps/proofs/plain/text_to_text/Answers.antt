@@ -4,7 +4,7 @@ use Rattle.leads.specs.Lead.{LeadIn}
 use Rattle.steps.specs.Plain.{or_unchanged, text_to_text}
 use Rattle.steps.proofs.Others.{no_words}
 use Rattle.steps.proofs.Within.{translated_inside}
-use borrow.Author.Rules.{rules}
+use borrow.Enum.Refused.{opened}
 use Rattle.steps.proofs.plain.text_to_text.Goals as goal
 
 pub returns-in-Words : goal.returns-in-Words
@@ -19,7 +19,7 @@ returns-in-Words c =
 pub returns-in_default : goal.returns-in_default
 returns-in_default c =
     let s = c.args in (
-      sym (no_words c.translate.result c.in_default.in_default-own.keys2)
+      sym (no_words c.translate.result (opened c.in_default.in_default-own.keys2))
           ∙ ap or_unchanged c.translate.ensures
           ∙ ap (text_to_text s.image.now s.b s.text.now) (sym c.if-is_text.true ∙ c.is_text.ensures),
       tt,

@@ -2,7 +2,6 @@
 use mathlib.Core.Path.{sym, ap, ◌∙◌}
 use Rattle.blocks.specs.View.{value_in}
 use Rattle.steps.specs.Plain.{or_unknown, text_to_value}
-use borrow.Author.Rules.{rules}
 use Rattle.steps.proofs.plain.text_to_value.Goals as goal
 
 pub returns-in-Value : goal.returns-in-Value

@@ -7,7 +7,7 @@ use Rattle.steps.specs.Step.{typed, StepIn}
 use Rattle.steps.specs.declared.step.Step.TheVariants.{Done}
 use Rattle.steps.proofs.Others.{plain_type}
 use Rattle.steps.proofs.Within.{grouped_in_lem, numbered_in, value_in_lem}
-use borrow.Author.Rules.{rules}
+use borrow.Enum.Refused.{opened}
 use Rattle.steps.proofs.step.by_type.Goals as goal
 
 pub returns-in-ValueToText : goal.returns-in-ValueToText
@@ -45,7 +45,7 @@ pub returns-in_default : goal.returns-in_default
 returns-in_default c =
     let a = c.args in (
       ap Done c.number_rule.ensures
-          ∙ sym (plain_type a.mode a.image.now a.text.now a.b a.v c.from_u8-kind.result c.in_default.in_default-own.keys6)
+          ∙ sym (plain_type a.mode a.image.now a.text.now a.b a.v c.from_u8-kind.result (opened c.in_default.in_default-own.keys6))
           ∙ ap (typed a.mode a.image.now a.text.now a.b a.v) c.from_u8-kind.ensures,
       subst (PlainIn a.image.now) (sym c.number_rule.ensures) (numbered_in a.image.now c.from_u8-kind.result (values a.image.now a.b.firstval a.b.valcount) (taken a.v)),
     )

@@ -3,7 +3,6 @@ use mathlib.Core.Path.{sym, ap, ◌∙◌}
 use Rattle.steps.specs.Mode.{bits_of}
 use Rattle.steps.specs.Step.{grouped_bits, grouped_in}
 use Rattle.steps.specs.declared.mode.Edition.{Edition}
-use borrow.Author.Rules.{rules}
 use Rattle.steps.proofs.step.groups.Goals as goal
 
 pub returns-in-Mdf410 : goal.returns-in-Mdf410

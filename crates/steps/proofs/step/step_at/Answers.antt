@@ -2,7 +2,6 @@
 use mathlib.Core.Path.{sym, ap, ◌∙◌}
 use Rattle.steps.specs.Step.{step_of, unless_cut}
 use Rattle.steps.proofs.Opened.{seen_fits}
-use borrow.Author.Rules.{rules}
 use Rattle.steps.proofs.step.step_at.Goals as goal
 
 pub by_type-requires : goal.by_type-requires

@@ -2,7 +2,6 @@
 use native.Mathlib.Omega.{arith}
 use mathlib.Core.Path.{refl}
 use Rattle.blocks.proofs.Looking.{cut_early, cut_late, seen_whole}
-use borrow.Author.Rules.{rules}
 use Rattle.blocks.proofs.view.View.look.Goals as goal
 
 pub returns-then-room-lt64 : goal.returns-then-room-lt64

@@ -1,5 +1,4 @@
 -- `blocks::view::View::of` meets its contract. Assumes nothing.
-use borrow.Author.Rules.{rules}
 use Rattle.blocks.proofs.view.View.of.Goals as goal
 
 pub returns : goal.returns

@@ -1,6 +1,5 @@
 -- `blocks::view::View::reference` meets its contract. Assumes nothing.
 use Rattle.blocks.specs.View.{reference_in}
-use borrow.Author.Rules.{rules}
 use Rattle.blocks.proofs.view.View.reference.Goals as goal
 
 pub returns : goal.returns

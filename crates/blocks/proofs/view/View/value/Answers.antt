@@ -3,7 +3,6 @@ use mathlib.Core.Path.{sym, ap, ◌∙◌}
 use Rattle.blocks.specs.Place.{as_value}
 use Rattle.blocks.specs.View.{value_in}
 use Rattle.blocks.specs.declared.Number.TheVariants.{Value}
-use borrow.Author.Rules.{rules}
 use Rattle.blocks.proofs.view.View.value.Goals as goal
 
 pub returns-in-Bits : goal.returns-in-Bits

@@ -1,6 +1,5 @@
 -- `blocks::view::View::value_word` meets its contract. Assumes nothing.
 use Rattle.blocks.specs.View.{value_word_in}
-use borrow.Author.Rules.{rules}
 use Rattle.blocks.proofs.view.View.value_word.Goals as goal
 
 pub returns : goal.returns

@@ -3,7 +3,6 @@ use mathlib.Core.Path.{ap}
 use Prim.Native.Nat.{ℕ}
 use lib.Dec.{eqb}
 use Rattle.common.specs.Header.{is_conversion, conversion_id}
-use borrow.Author.Rules.{rules}
 use Rattle.common.proofs.header.Header.is_conversion.Goals as goal
 
 pub returns : goal.returns

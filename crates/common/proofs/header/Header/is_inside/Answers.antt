@@ -5,7 +5,6 @@ use mathlib.Core.Path.{sym}
 use native.Mathlib.Omega.{arith}
 use borrow.Author.Tests.{le-leb, lt-leb}
 use Rattle.common.specs.Header.{inside}
-use borrow.Author.Rules.{rules}
 use Rattle.common.proofs.header.Header.is_inside.Goals as goal
 
 pub returns-then-image-lt-SIZE : goal.returns-then-image-lt-SIZE

@@ -1,6 +1,5 @@
 -- `common::header::Header::read` meets its contract. Assumes nothing.
 use Rattle.common.specs.Header.{header_at}
-use borrow.Author.Rules.{rules}
 use Rattle.common.proofs.header.Header.read.Goals as goal
 
 pub returns : goal.returns

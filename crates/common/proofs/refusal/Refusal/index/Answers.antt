@@ -2,7 +2,6 @@
 use mathlib.Core.Path.{sym, ap}
 use Rattle.common.specs.Refusal.{index_of}
 use Rattle.common.proofs.Indexes.{no_index}
-use borrow.Author.Rules.{rules}
 use borrow.Enum.Refused.{opened}
 use Rattle.common.proofs.refusal.Refusal.index.Goals as goal
 

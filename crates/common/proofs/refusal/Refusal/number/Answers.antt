@@ -1,7 +1,6 @@
 -- `common::refusal::Refusal::number` meets its contract. Assumes nothing.
 use mathlib.Core.Path.{sym, ap}
 use Rattle.common.specs.Refusal.{number_of}
-use borrow.Author.Rules.{rules}
 use Rattle.common.proofs.refusal.Refusal.number.Goals as goal
 
 pub returns-in-Outside : goal.returns-in-Outside

@@ -1,5 +1,4 @@
 -- `pieces::said::Outcome::counted` meets its contract. Assumes nothing.
-use borrow.Author.Rules.{rules}
 use Rattle.pieces.proofs.said.Outcome.counted.Goals as goal
 
 pub returns : goal.returns

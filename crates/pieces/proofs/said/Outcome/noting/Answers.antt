@@ -1,5 +1,4 @@
 -- `pieces::said::Outcome::noting` meets its contract. Assumes nothing.
-use borrow.Author.Rules.{rules}
 use Rattle.pieces.proofs.said.Outcome.noting.Goals as goal
 
 pub returns : goal.returns

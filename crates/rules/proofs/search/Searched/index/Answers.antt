@@ -1,7 +1,6 @@
 -- `rules::search::Searched::index` meets its contract. Assumes nothing.
 use mathlib.Core.Path.{sym, ap}
 use Rattle.rules.specs.Search.{deciding}
-use borrow.Author.Rules.{rules}
 use Rattle.rules.proofs.search.Searched.index.Goals as goal
 
 pub returns-in-Matched : goal.returns-in-Matched

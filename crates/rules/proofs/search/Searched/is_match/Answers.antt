@@ -1,7 +1,6 @@
 -- `rules::search::Searched::is_match` meets its contract. Assumes nothing.
 use mathlib.Core.Path.{sym, ap}
 use Rattle.rules.specs.Search.{is_match}
-use borrow.Author.Rules.{rules}
 use Rattle.rules.proofs.search.Searched.is_match.Goals as goal
 
 pub returns-in-Matched : goal.returns-in-Matched
