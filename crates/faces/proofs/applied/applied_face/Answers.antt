@@ -1,6 +1,5 @@
 -- `faces::applied::applied_face` meets its contract. Assumes nothing.
 use mathlib.Core.Path.{◌∙◌}
-use borrow.Author.Rules.{rules}
 use Rattle.faces.proofs.applied.applied_face.Goals as goal
 
 pub returns-in-Number : goal.returns-in-Number

@@ -1,6 +1,5 @@
 -- `faces::applied::made` meets its contract. Assumes nothing.
 use mathlib.Core.Path.{refl}
-use borrow.Author.Rules.{rules}
 use Rattle.faces.proofs.applied.made.Goals as goal
 
 pub returns : goal.returns

@@ -1,6 +1,5 @@
 -- `faces::block::block_face` meets its contract. Assumes nothing.
 use mathlib.Core.Path.{refl}
-use borrow.Author.Rules.{rules}
 use Rattle.faces.proofs.block.block_face.Goals as goal
 
 pub returns : goal.returns

@@ -1,5 +1,4 @@
 -- `faces::block::parsed_face` meets its contract. Assumes nothing.
-use borrow.Author.Rules.{rules}
 use Rattle.faces.proofs.block.parsed_face.Goals as goal
 
 pub returns-in-Whole : goal.returns-in-Whole

@@ -1,7 +1,6 @@
 -- `faces::checked::address_or` meets its contract. Assumes nothing.
 use mathlib.Core.Path.{sym, ap}
 use Rattle.faces.specs.Checked.{address_or}
-use borrow.Author.Rules.{rules}
 use Rattle.faces.proofs.checked.address_or.Goals as goal
 
 pub returns-in-Bits : goal.returns-in-Bits

@@ -1,5 +1,4 @@
 -- `faces::checked::checked_face` meets its contract. Assumes nothing.
-use borrow.Author.Rules.{rules}
 use Rattle.faces.proofs.checked.checked_face.Goals as goal
 
 pub returns-in-Accepted : goal.returns-in-Accepted

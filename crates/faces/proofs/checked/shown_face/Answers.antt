@@ -2,7 +2,6 @@
 use mathlib.Core.Path.{sym, ap, subst}
 use Rattle.conversion.specs.declared.shown.Shown.{Shown}
 use Rattle.faces.specs.Checked.{shown_face, Ordered}
-use borrow.Author.Rules.{rules}
 use Rattle.faces.proofs.checked.shown_face.Goals as goal
 
 pub overflow_sub-result : goal.overflow_sub-result

@@ -4,7 +4,6 @@ use Prim.Native.Nat.{ℕ}
 use Rattle.common.specs.Refusal.{number_of, index_of}
 use Rattle.faces.specs.Checked.{address_or}
 use Rattle.faces.specs.Inverted.{inverted_face}
-use borrow.Author.Rules.{rules}
 use Rattle.faces.proofs.inverted.inverted_face.Goals as goal
 
 pub returns-in-Bytes : goal.returns-in-Bytes

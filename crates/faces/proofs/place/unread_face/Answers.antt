@@ -1,5 +1,4 @@
 -- `faces::place::unread_face` meets its contract. Assumes nothing.
-use borrow.Author.Rules.{rules}
 use Rattle.faces.proofs.place.unread_face.Goals as goal
 
 pub returns : goal.returns

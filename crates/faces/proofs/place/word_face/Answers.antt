@@ -1,7 +1,6 @@
 -- `faces::place::word_face` meets its contract. Assumes nothing.
 use mathlib.Core.Path.{sym, ap}
 use Rattle.faces.specs.Place.{word_face}
-use borrow.Author.Rules.{rules}
 use Rattle.faces.proofs.place.word_face.Goals as goal
 
 pub returns-in-Bits : goal.returns-in-Bits

@@ -2,7 +2,6 @@
 use mathlib.Core.Path.{sym, ap, subst, ◌∙◌}
 use Prim.Native.Nat.{ℕ, ◌-◌}
 use Rattle.faces.specs.Text.{text_face, InOrder}
-use borrow.Author.Rules.{rules}
 use Rattle.faces.proofs.text.text_face.Goals as goal
 
 pub overflow_sub-length : goal.overflow_sub-length

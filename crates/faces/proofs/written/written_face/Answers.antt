@@ -2,7 +2,6 @@
 use mathlib.Core.Path.{sym, ap, ◌∙◌}
 use Prim.Native.Nat.{ℕ}
 use Rattle.faces.specs.Block.{written_face}
-use borrow.Author.Rules.{rules}
 use Rattle.faces.proofs.written.written_face.Goals as goal
 
 pub returns-in-Bytes : goal.returns-in-Bytes

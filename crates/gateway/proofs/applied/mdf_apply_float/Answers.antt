@@ -1,6 +1,5 @@
 -- `gateway::applied::mdf_apply_float` meets its contract. Assumes nothing.
 use Rattle.gateway.proofs.Faces.{faced}
-use borrow.Author.Rules.{rules}
 use Rattle.gateway.proofs.applied.mdf_apply_float.Goals as goal
 
 -- TODO slice-aggregate-apply : tie.Need-slice-aggregate-apply

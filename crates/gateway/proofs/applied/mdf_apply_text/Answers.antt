@@ -1,6 +1,5 @@
 -- `gateway::applied::mdf_apply_text` meets its contract. Assumes nothing.
 use Rattle.gateway.proofs.Faces.{faced}
-use borrow.Author.Rules.{rules}
 use Rattle.gateway.proofs.applied.mdf_apply_text.Goals as goal
 
 pub returns : goal.returns

@@ -2,7 +2,6 @@
 use mathlib.Core.Path.{ap, ◌∙◌}
 use Rattle.padding.proofs.Keeping.{plain_mode}
 use Rattle.faces.specs.Block.{parsed_face}
-use borrow.Author.Rules.{rules}
 use Rattle.gateway.proofs.block.mdf_parse.Goals as goal
 
 pub returns : goal.returns

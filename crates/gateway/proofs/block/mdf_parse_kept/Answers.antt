@@ -1,7 +1,6 @@
 -- `gateway::block::mdf_parse_kept` meets its contract. Assumes nothing.
 use mathlib.Core.Path.{ap, ◌∙◌}
 use Rattle.faces.specs.Block.{parsed_face}
-use borrow.Author.Rules.{rules}
 use Rattle.gateway.proofs.block.mdf_parse_kept.Goals as goal
 
 pub returns : goal.returns

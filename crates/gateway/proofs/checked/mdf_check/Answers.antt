@@ -1,7 +1,6 @@
 -- `gateway::checked::mdf_check` meets its contract. Assumes nothing.
 use mathlib.Core.Path.{ap, ◌∙◌}
 use Rattle.faces.specs.Checked.{checked_face}
-use borrow.Author.Rules.{rules}
 use Rattle.gateway.proofs.checked.mdf_check.Goals as goal
 
 pub returns : goal.returns

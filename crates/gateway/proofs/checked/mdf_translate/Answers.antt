@@ -4,7 +4,6 @@ use lib.ListN.{length}
 use Rattle.conversion.specs.declared.shown.Shown.{Shown}
 use Rattle.faces.specs.Checked.{shown_face}
 use Rattle.gateway.proofs.Faces.{ordered}
-use borrow.Author.Rules.{rules}
 use Rattle.gateway.proofs.checked.mdf_translate.Goals as goal
 
 pub shown_face-requires : goal.shown_face-requires

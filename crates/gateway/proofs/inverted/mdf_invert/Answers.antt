@@ -1,6 +1,5 @@
 -- `gateway::inverted::mdf_invert` meets its contract. Assumes nothing.
 use Rattle.gateway.proofs.Faces.{faced_inverting}
-use borrow.Author.Rules.{rules}
 use Rattle.gateway.proofs.inverted.mdf_invert.Goals as goal
 
 pub returns : goal.returns

@@ -1,6 +1,5 @@
 -- `gateway::moded::mdf_apply_mode_float` meets its contract. Assumes nothing.
 use Rattle.gateway.proofs.Faces.{faced}
-use borrow.Author.Rules.{rules}
 use Rattle.gateway.proofs.moded.mdf_apply_mode_float.Goals as goal
 
 -- TODO slice-aggregate-apply-at : tie.Need-slice-aggregate-apply-at

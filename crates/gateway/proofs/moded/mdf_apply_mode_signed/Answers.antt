@@ -2,7 +2,6 @@
 use mir.Syntax.{w64}
 use mir.ValLaws.{to_z-of_z}
 use Rattle.gateway.proofs.Faces.{faced}
-use borrow.Author.Rules.{rules}
 use Rattle.gateway.proofs.moded.mdf_apply_mode_signed.Goals as goal
 
 -- TODO slice-aggregate-apply-at : tie.Need-slice-aggregate-apply-at

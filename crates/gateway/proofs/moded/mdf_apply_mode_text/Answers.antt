@@ -1,6 +1,5 @@
 -- `gateway::moded::mdf_apply_mode_text` meets its contract. Assumes nothing.
 use Rattle.gateway.proofs.Faces.{faced}
-use borrow.Author.Rules.{rules}
 use Rattle.gateway.proofs.moded.mdf_apply_mode_text.Goals as goal
 
 pub returns : goal.returns

@@ -1,6 +1,5 @@
 -- `gateway::moded::mdf_apply_mode_unsigned` meets its contract. Assumes nothing.
 use Rattle.gateway.proofs.Faces.{faced}
-use borrow.Author.Rules.{rules}
 use Rattle.gateway.proofs.moded.mdf_apply_mode_unsigned.Goals as goal
 
 -- TODO slice-aggregate-apply-at : tie.Need-slice-aggregate-apply-at

@@ -1,7 +1,6 @@
 -- `gateway::place::mdf_value_word` meets its contract. Assumes nothing.
 use Rattle.blocks.specs.Place.{value_word_of}
 use Rattle.gateway.proofs.Faces.{placed, unplaced}
-use borrow.Author.Rules.{rules}
 use Rattle.gateway.proofs.place.mdf_value_word.Goals as goal
 
 pub returns-in-Whole : goal.returns-in-Whole

@@ -3,7 +3,6 @@ use mathlib.Core.Path.{sym, ap, subst, ◌∙◌}
 use Rattle.texts.proofs.Reading.{FoundIn, read_within}
 use Rattle.faces.specs.Text.{text_face}
 use Rattle.gateway.proofs.Faces.{in_order}
-use borrow.Author.Rules.{rules}
 use Rattle.gateway.proofs.text.mdf_text_read.Goals as goal
 
 pub text_face-requires : goal.text_face-requires

@@ -3,7 +3,6 @@ use mathlib.Core.Path.{ap, ◌∙◌}
 use Rattle.texts.specs.Write.{writing_text}
 use Rattle.texts.specs.declared.read.TextId.{TextId}
 use Rattle.gateway.proofs.Faces.{faced_writing}
-use borrow.Author.Rules.{rules}
 use Rattle.gateway.proofs.text.mdf_text_write.Goals as goal
 
 pub returns : goal.returns

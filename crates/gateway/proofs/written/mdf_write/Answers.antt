@@ -1,6 +1,5 @@
 -- `gateway::written::mdf_write` meets its contract. Assumes nothing.
 use Rattle.gateway.proofs.Faces.{faced_writing}
-use borrow.Author.Rules.{rules}
 use Rattle.gateway.proofs.written.mdf_write.Goals as goal
 
 pub returns : goal.returns
