@@ -56,14 +56,14 @@ pub enum Parsed {
 }
 
 // A value, where there is one.
-#[derive(Drop)]
+#[derive(Clone, Copy)]
 pub enum Number {
     Value(f64),
     NoValue,
 }
 
 // The four fixed links.
-#[derive(Drop)]
+#[derive(Clone, Copy)]
 pub struct Fixed {
     pub name: u64,
     pub unit: u64,
@@ -72,7 +72,7 @@ pub struct Fixed {
 }
 
 // The eight bytes behind the references.
-#[derive(Drop)]
+#[derive(Clone, Copy)]
 pub struct Fields {
     pub kind: u8,
     pub precision: u8,
@@ -82,7 +82,7 @@ pub struct Fields {
 }
 
 // The two range fields, as floats and as the words that spelled them.
-#[derive(Drop)]
+#[derive(Clone, Copy)]
 pub struct Range {
     pub ranged: bool,
     pub minimum: f64,

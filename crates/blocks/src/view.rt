@@ -20,7 +20,7 @@ pub struct View {
 }
 
 // A block that lies whole in the image, or one that the image cuts off.
-#[derive(Drop)]
+#[derive(Clone, Copy)]
 pub enum Seen {
     Open(View),
     Cut,

@@ -69,7 +69,7 @@ fn words(b: Block, refs: &[u64], v0: u64, v1: u64, n: Args, mem: &mut [u8]) -> W
 }
 
 // Two references and two values to write, which stand in the memory.
-#[derive(Drop)]
+#[derive(Clone, Copy)]
 struct Parts {
     r0: u64,
     r1: u64,

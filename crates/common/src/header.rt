@@ -4,7 +4,7 @@ ghost use Rattle.common.specs.Header.{header_at, header_bytes, inside, is_conver
 ghost use Rattle.words.specs.Words.{put};
 
 // The 24 bytes that every block begins with.
-#[derive(Drop)]
+#[derive(Clone, Copy)]
 pub struct Header {
     pub id: u32,
     pub reserved: u32,

@@ -29,7 +29,7 @@ pub enum Refusal {
 }
 
 // A number of 64 bits, where there is one.
-#[derive(Drop)]
+#[derive(Clone, Copy)]
 pub enum Word {
     Bits(u64),
     NoWord,

@@ -9,7 +9,7 @@ ghost use Rattle.common.specs.Text.{run_at, run_of, text_bytes, text_of};
 use crate::header::Header;
 
 // Where a text stands in the image: from the first place up to the second, which is not its own any more.
-#[derive(Drop)]
+#[derive(Clone, Copy)]
 pub enum Text {
     Part(usize, usize),
     NoText,

@@ -2,7 +2,7 @@
 ghost use Rattle.std.specs.Prelude.{◌≡◌};
 ghost use Rattle.common.specs.Types.{type_of, number_of_type};
 
-#[derive(Drop)]
+#[derive(Clone, Copy)]
 pub enum ConversionType {
     Identity,
     Linear,

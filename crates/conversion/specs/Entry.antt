@@ -41,7 +41,7 @@ pub record Call : Type 0 where
 abbrev pub call : Applied → List ℕ → Call
 call r out = record { result = r; output = out }
 
--- the answer where the output has so much room: 7 before 8. A block that cannot be opened is not met after an accepted check (`no-broken`)
+-- the answer where the output has so much room: 7 before 8. A block that cannot be opened is not met after an accepted check (`no_broken`)
 unfoldable pub answer_in : ℕ → ℕ → says.Answer → Answer
 answer_in room a (says.number x) = Number x
 answer_in room a (says.text t) = cond (leb (length t) room) (Text (length t)) (Refused refusal.Room)

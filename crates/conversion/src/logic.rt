@@ -59,7 +59,7 @@ impl Answer {
 
 // The answer with the visits of the check, N, and of the application, M, and whether a malformed table of a range to text was consulted: its length is
 // 0, 1 or odd. Where the check refuses, both numbers are 0 and no table was consulted.
-#[derive(Drop)]
+#[derive(Clone, Copy)]
 pub struct Applied {
     pub answer: Answer,
     pub checked: u32,

@@ -10,7 +10,7 @@ use leads::lead::Lead;
 use tree::{Checked, check};
 
 // What is shown: a part of the image, or the question.
-#[derive(Drop)]
+#[derive(Clone, Copy)]
 pub enum Shown {
     Part(usize, usize),
     Question,

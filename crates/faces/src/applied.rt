@@ -8,7 +8,7 @@ use conversion::logic::{Answer, Applied};
 // `kind`: 0 refused, 1 number, 2 text, 3 unchanged, 4 unknown. `malformed`: 1 where a malformed table was consulted, else 0. Fields that do not
 // apply are 0.
 #[repr(C)]
-#[derive(Drop)]
+#[derive(Clone, Copy)]
 pub struct MdfApplied {
     pub refusal: u32,
     pub kind: u32,
@@ -56,7 +56,7 @@ pub fn applied_face(a: Applied) -> MdfApplied
 
 // `width`: how many bits the signal has. `edition`: 410 or 420, the edition of MDF.
 #[repr(C)]
-#[derive(Drop)]
+#[derive(Clone, Copy)]
 pub struct MdfMode {
     pub width: u32,
     pub edition: u32,

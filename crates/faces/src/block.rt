@@ -6,7 +6,7 @@ use crate::checked::address_or;
 use blocks::{Block, Parsed};
 
 #[repr(C)]
-#[derive(Drop)]
+#[derive(Clone, Copy)]
 pub struct MdfBlock {
     pub length: u64,
     pub links: u64,
@@ -31,7 +31,7 @@ pub struct MdfBlock {
 }
 
 #[repr(C)]
-#[derive(Drop)]
+#[derive(Clone, Copy)]
 pub struct MdfParsed {
     pub refusal: u32,
     pub address: u64,

@@ -8,7 +8,7 @@ use tree::Checked;
 
 // 0 accepted, with the visits; or document 01's number of the refusal, with its address.
 #[repr(C)]
-#[derive(Drop)]
+#[derive(Clone, Copy)]
 pub struct MdfChecked {
     pub refusal: u32,
     pub visits: u32,
@@ -17,7 +17,7 @@ pub struct MdfChecked {
 
 // 1: that part of the image; 0: the question, from 0 on with its length.
 #[repr(C)]
-#[derive(Drop)]
+#[derive(Clone, Copy)]
 pub struct MdfShown {
     pub fromimage: u32,
     pub start: u64,

@@ -7,7 +7,7 @@ use common::written::Written;
 
 // 0 with the length of the block that was made; or the number of the refusal, with the index of the key for 12 to 14, else with its address.
 #[repr(C)]
-#[derive(Drop)]
+#[derive(Clone, Copy)]
 pub struct MdfInverted {
     pub refusal: u32,
     pub index: u32,

@@ -7,7 +7,7 @@ use common::refusal::{Refusal, Word};
 
 // `found`: 1 where the block has that place, with its word; else 0.
 #[repr(C)]
-#[derive(Drop)]
+#[derive(Clone, Copy)]
 pub struct MdfWord {
     pub refusal: u32,
     pub found: u32,

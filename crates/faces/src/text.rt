@@ -7,7 +7,7 @@ use texts::read::{TextId, TextRead};
 
 // `id`: 0 ##TX, 1 ##MD. The text stands in the image from `start` on. Fields that do not apply are 0.
 #[repr(C)]
-#[derive(Drop)]
+#[derive(Clone, Copy)]
 pub struct MdfText {
     pub refusal: u32,
     pub id: u32,

@@ -7,7 +7,7 @@ use blocks::Block;
 use common::written::Written;
 
 #[repr(C)]
-#[derive(Drop)]
+#[derive(Clone, Copy)]
 pub struct MdfWritten {
     pub refusal: u32,
     pub length: u64,

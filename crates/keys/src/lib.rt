@@ -15,7 +15,7 @@ use leads::lead::{Lead, lead_at};
 use repeats::first_repeat;
 
 // Why a key cannot be taken, if it cannot.
-#[derive(Drop)]
+#[derive(Clone, Copy)]
 pub enum Fault {
     Faulty(Refusal),
     Faultless,

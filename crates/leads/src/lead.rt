@@ -8,7 +8,7 @@ use common::header::Header;
 use common::refusal::Word;
 use common::text::{Text, run_of};
 
-#[derive(Drop)]
+#[derive(Clone, Copy)]
 pub enum Lead {
     // A text, by where it may run in the image; it ends at the first zero byte there.
     Words(usize, usize),

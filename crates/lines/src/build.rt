@@ -3,7 +3,7 @@ use crate::parts::{byte, room};
 use crate::read::number;
 
 // The place behind the last number that was put, and the place in the command behind the last one that was read.
-#[derive(Drop)]
+#[derive(Clone, Copy)]
 pub struct Listed {
     pub at: usize,
     pub next: usize,

@@ -5,7 +5,7 @@
 use crate::parts::{byte, find, part};
 
 // A number and the place behind it. Where there is none, the place is the one where it was looked for.
-#[derive(Drop)]
+#[derive(Clone, Copy)]
 pub struct Found {
     pub value: u64,
     pub next: usize,
@@ -22,7 +22,7 @@ pub struct Args {
 }
 
 // The places of a text's bytes, and whether it is one.
-#[derive(Drop)]
+#[derive(Clone, Copy)]
 pub struct Quoted {
     pub from: usize,
     pub to: usize,
@@ -30,7 +30,7 @@ pub struct Quoted {
 }
 
 // A number as far as it is read. The base is 0 where it is none.
-#[derive(Drop)]
+#[derive(Clone, Copy)]
 struct Partial {
     value: u64,
     base: u64,

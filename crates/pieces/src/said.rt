@@ -19,7 +19,7 @@ pub enum Said {
 }
 
 // `malformed`: the table of a range to text that was consulted so far has length 0, 1 or an odd one.
-#[derive(Drop)]
+#[derive(Clone, Copy)]
 pub struct Outcome {
     pub said: Said,
     pub visits: u32,

@@ -14,7 +14,7 @@ use Rattle.writer.specs.Write.{write_size, block_bytes}
 abbrev pub bad_input : List ℕ
 bad_input = 98 ∷ 97 ∷ 100 ∷ 32 ∷ 105 ∷ 110 ∷ 112 ∷ 117 ∷ 116 ∷ 10 ∷ []
 
--- "refused", a space, the number, which is 1, 2 or 4 (`refused-with`), and a newline
+-- "refused", a space, the number, which is 1, 2 or 4 (`refused_with`), and a newline
 abbrev pub refused_line : ℕ → List ℕ
 refused_line n = 114 ∷ 101 ∷ 102 ∷ 117 ∷ 115 ∷ 101 ∷ 100 ∷ 32 ∷ (48 + n) ∷ 10 ∷ []
 

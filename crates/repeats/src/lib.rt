@@ -29,7 +29,7 @@ pub struct Run {
 }
 
 // Two texts compared: the same, or the number of leading bytes that they have in common.
-#[derive(Drop)]
+#[derive(Clone, Copy)]
 pub enum Met {
     Same,
     Upto(usize),

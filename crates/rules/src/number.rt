@@ -14,7 +14,7 @@ pub enum Value {
 }
 
 // The number of a value, and whether it came from an integer, for which an upper bound is inclusive.
-#[derive(Drop)]
+#[derive(Clone, Copy)]
 pub enum Taken {
     Number(f64, bool),
     NoNumber,

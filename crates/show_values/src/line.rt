@@ -19,7 +19,7 @@ const ROOM: usize = 4096;
 const BACK: u64 = 5;
 
 // The links to a conversion's name and unit.
-#[derive(Drop)]
+#[derive(Clone, Copy)]
 struct Links {
     name: u64,
     unit: u64,

@@ -13,7 +13,7 @@ use rules::number::{Taken, Value, take};
 use rules::search::{Searched, search_key, search_range};
 
 // What the deciding reference leads to: a nested block, which gets the original value, or an answer.
-#[derive(Drop)]
+#[derive(Clone, Copy)]
 pub enum Choice {
     Nested(u64),
     Done(Plain),
@@ -75,7 +75,7 @@ pub fn chosen_key(image: &[u8], b: View, v: Value) -> Choice
 }
 
 // What type 8 chose, and whether the table that it consulted is malformed.
-#[derive(Drop)]
+#[derive(Clone, Copy)]
 pub struct Consulted {
     pub choice: Choice,
     pub malformed: bool,

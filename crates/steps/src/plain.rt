@@ -16,7 +16,7 @@ use rules::number::{Taken, Value, take};
 use rules::table_lookup::{apply_range_value, apply_table};
 
 // An answer that needs no other block. `Formula` and `Broken` stop the application: a formula is met, or a block cannot be opened.
-#[derive(Drop)]
+#[derive(Clone, Copy)]
 pub enum Plain {
     Number(f64),
     // A text, by where it may run in the image; it ends at the first zero byte there.

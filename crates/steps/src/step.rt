@@ -12,7 +12,7 @@ use common::types::ConversionType;
 use rules::number::Value;
 
 // Types 7, 8 and 11 go on to other blocks; bit groups take the bits that reach the masks.
-#[derive(Drop)]
+#[derive(Clone, Copy)]
 pub enum Step {
     ByKey(View),
     ByRange(View),

@@ -33,7 +33,7 @@ read_at img a = cond (has_id (id_word Tx) img a) (read_as Tx img a) (cond (has_i
 unfoldable pub reading : List ℕ → ℕ → TextRead
 reading img a = cond (inside img a) (read_at img a) (Unread (Outside a))
 
--- "Conversions still take ##TX only": the text that a conversion's link gives of what is read at its address (`as-linked`)
+-- "Conversions still take ##TX only": the text that a conversion's link gives of what is read at its address (`as_linked`)
 abbrev pub link_text : TextRead → Text
 link_text (Found Tx from to) = Part from to
 link_text (Found Md from to) = NoText

@@ -16,7 +16,7 @@ pub enum TextId {
 }
 
 // A block's id and where its text stands in the image, from the first place up to the second; or why there is none.
-#[derive(Drop)]
+#[derive(Clone, Copy)]
 pub enum TextRead {
     Found(TextId, usize, usize),
     Unread(Refusal),

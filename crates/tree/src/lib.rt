@@ -17,14 +17,14 @@ use common::header::Header;
 use common::refusal::Refusal;
 
 // The number of visits begun, or the first refusal.
-#[derive(Drop)]
+#[derive(Clone, Copy)]
 pub enum Checked {
     Accepted(u32),
     Unsound(Refusal),
 }
 
 // Where a reference leads.
-#[derive(Drop)]
+#[derive(Clone, Copy)]
 pub enum Link {
     Nowhere,
     Back,
@@ -33,7 +33,7 @@ pub enum Link {
 
 // What a block's walk knows between two references: the visits begun so far, and the last reference that led to a nested block, with the visits
 // that it cost. Before there is one, `last` is NIL, which costs none.
-#[derive(Drop)]
+#[derive(Clone, Copy)]
 pub struct Tally {
     pub visits: u32,
     pub last: u64,
@@ -41,7 +41,7 @@ pub struct Tally {
 }
 
 // The tally behind a reference, or the refusal met there.
-#[derive(Drop)]
+#[derive(Clone, Copy)]
 pub enum Step {
     Go(Tally),
     Stop(Refusal),

@@ -39,31 +39,31 @@ pub fn u64_at(s: &[u8], at: usize) -> u64
 }
 
 // A place in the bytes. A method reads what stands there and hands back the place behind it.
-#[derive(Drop)]
+#[derive(Clone, Copy)]
 pub struct Cursor {
     pub at: usize,
 }
 
-#[derive(Drop)]
+#[derive(Clone, Copy)]
 pub struct ByteRead {
     pub value: u8,
     pub next: Cursor,
 }
 
-#[derive(Drop)]
+#[derive(Clone, Copy)]
 pub struct ShortRead {
     pub value: u16,
     pub next: Cursor,
 }
 
-#[derive(Drop)]
+#[derive(Clone, Copy)]
 pub struct LinkRead {
     pub value: u64,
     pub next: Cursor,
 }
 
 // A float with the 64 bits that spelled it: of a NaN the float does not tell them.
-#[derive(Drop)]
+#[derive(Clone, Copy)]
 pub struct FloatRead {
     pub value: f64,
     pub word: u64,

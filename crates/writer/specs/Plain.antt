@@ -1,5 +1,5 @@
 -- The writer as document 01 has it, which knows no padding: zero reserved bytes, nothing behind the values, refusals 9 and 8. So a record without padding
--- is written (`plain-writing`). Assumes nothing: these are definitions.
+-- is written (`plain_writing_lem`). Assumes nothing: these are definitions.
 use Rattle.std.specs.Prelude.{ℕ, ◌+◌, ◌*◌, Bool, cond, List, ◌++◌, ltb}
 use Rattle.std.proofs.Math.ListN as ListN
 use Rattle.words.specs.Words.{bytes4, bytes8, links}

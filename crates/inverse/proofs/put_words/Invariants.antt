@@ -1,4 +1,4 @@
--- put_words.Lts
+-- The loops of `inverse::put_words`: what stays true from turn to turn, and the measure. Assumes nothing.
 use Prim.Native.Nat.{◌-◌}
 use Rattle.inverse.proofs.Writing.{PuttingWords}
 use Rattle.inverse.proofs.put_words.Given as goal
