@@ -1,5 +1,5 @@
 -- build.fill.Lts
-use Rattle.std.proofs.Common.{◌≡◌, ◌-◌, length, rules}
+use Rattle.std.proofs.Common.{◌≡◌, ◌-◌, length}
 use Rattle.lines.proofs.build.fill.Given as goal
 
 abbrev pub invariant-loop-k : goal.invariant-loop-k

@@ -1,5 +1,5 @@
 -- build.list.Lts
-use Rattle.std.proofs.Common.{◌≡◌, ◌-◌, length, rules}
+use Rattle.std.proofs.Common.{◌≡◌, ◌-◌, length}
 use Rattle.lines.proofs.build.list.Given as goal
 
 abbrev pub invariant-loop-i : goal.invariant-loop-i

@@ -1,5 +1,5 @@
 -- `truncated` hands on only a float whose whole part fits: its two tests are what the library asks.
-use Rattle.std.proofs.Common.{T, sym, subst, rules}
+use Rattle.std.proofs.Common.{T, sym, subst}
 use lib.Ieee.{of_bits, neg}
 use Rattle.lines.proofs.decimal.truncated.Goals as goal
 

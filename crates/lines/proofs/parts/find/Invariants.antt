@@ -1,5 +1,5 @@
 -- parts.find.Lts
-use Rattle.std.proofs.Common.{◌-◌, ◌≤◌, length, rules}
+use Rattle.std.proofs.Common.{◌-◌, ◌≤◌, length}
 use Rattle.lines.proofs.parts.find.Given as goal
 
 abbrev pub invariant-loop-i : goal.invariant-loop-i

@@ -1,5 +1,5 @@
 -- read.digits.Lts
-use Rattle.std.proofs.Common.{◌-◌, length, rules}
+use Rattle.std.proofs.Common.{◌-◌, length}
 use Rattle.lines.proofs.read.digits.Given as goal
 
 abbrev pub invariant-loop-i : goal.invariant-loop-i
