@@ -1,4 +1,4 @@
--- list.Lts
+-- The loops of `show_values::list`: what stays true from turn to turn, and the measure. Assumes nothing.
 use Rattle.std.proofs.Common.{◌-◌, ◌≤◌, rules}
 use Rattle.show_values.proofs.list.Given as goal
 

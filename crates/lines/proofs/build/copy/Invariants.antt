@@ -1,4 +1,4 @@
--- build.copy.Lts
+-- The loops of `lines::build::copy`: what stays true from turn to turn, and the measure. Assumes nothing.
 use Rattle.std.proofs.Common.{◌≡◌, ◌-◌, length}
 use Rattle.lines.proofs.build.copy.Given as goal
 

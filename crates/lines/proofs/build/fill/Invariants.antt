@@ -1,4 +1,4 @@
--- build.fill.Lts
+-- The loops of `lines::build::fill`: what stays true from turn to turn, and the measure. Assumes nothing.
 use Rattle.std.proofs.Common.{◌≡◌, ◌-◌, length}
 use Rattle.lines.proofs.build.fill.Given as goal
 

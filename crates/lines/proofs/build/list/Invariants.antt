@@ -1,4 +1,4 @@
--- build.list.Lts
+-- The loops of `lines::build::list`: what stays true from turn to turn, and the measure. Assumes nothing.
 use Rattle.std.proofs.Common.{◌≡◌, ◌-◌, length}
 use Rattle.lines.proofs.build.list.Given as goal
 

@@ -1,4 +1,4 @@
--- parts.find.Lts
+-- The loops of `lines::parts::find`: what stays true from turn to turn, and the measure. Assumes nothing.
 use Rattle.std.proofs.Common.{◌-◌, ◌≤◌, length}
 use Rattle.lines.proofs.parts.find.Given as goal
 

@@ -1,4 +1,4 @@
--- read.digits.Lts
+-- The loops of `lines::read::digits`: what stays true from turn to turn, and the measure. Assumes nothing.
 use Rattle.std.proofs.Common.{◌-◌, length}
 use Rattle.lines.proofs.read.digits.Given as goal
 
