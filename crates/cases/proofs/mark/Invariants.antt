@@ -1,5 +1,5 @@
 -- mark.Lts
-use Rattle.std.proofs.Common.{◌-◌, ◌≤◌, length, rules}
+use Rattle.std.proofs.Common.{◌-◌, ◌≤◌, length}
 use Rattle.cases.proofs.mark.Given as goal
 
 abbrev pub invariant-loop-i : goal.invariant-loop-i

@@ -1,5 +1,5 @@
 -- all.Lts
-use Rattle.std.proofs.Common.{◌-◌, ◌≤◌, length, rules}
+use Rattle.std.proofs.Common.{◌-◌, ◌≤◌, length}
 use Rattle.padding_cases.proofs.all.Given as goal
 
 abbrev pub invariant-loop-at : goal.invariant-loop-at

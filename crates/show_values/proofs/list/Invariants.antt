@@ -1,5 +1,5 @@
 -- list.Lts
-use Rattle.std.proofs.Common.{◌-◌, ◌≤◌, rules}
+use Rattle.std.proofs.Common.{◌-◌, ◌≤◌}
 use Rattle.show_values.proofs.list.Given as goal
 
 abbrev pub invariant-loop-i : goal.invariant-loop-i

@@ -1,5 +1,5 @@
 -- say.is_untouched.Lts
-use Rattle.std.proofs.Common.{◌-◌, ◌≤◌, length, rules}
+use Rattle.std.proofs.Common.{◌-◌, ◌≤◌, length}
 use Rattle.cases.proofs.say.is_untouched.Given as goal
 
 abbrev pub invariant-loop-i : goal.invariant-loop-i

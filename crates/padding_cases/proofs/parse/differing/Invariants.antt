@@ -1,5 +1,5 @@
 -- parse.differing.Lts
-use Rattle.std.proofs.Common.{◌-◌, ◌≤◌, length, rules}
+use Rattle.std.proofs.Common.{◌-◌, ◌≤◌, length}
 use Rattle.padding_cases.proofs.parse.differing.Given as goal
 
 abbrev pub invariant-loop-k : goal.invariant-loop-k

@@ -1,5 +1,5 @@
 -- say.unless_all.Lts
-use Rattle.std.proofs.Common.{◌-◌, ◌≤◌, length, rules}
+use Rattle.std.proofs.Common.{◌-◌, ◌≤◌, length}
 use Rattle.padding_cases.proofs.say.unless_all.Given as goal
 
 abbrev pub invariant-loop-k : goal.invariant-loop-k
