@@ -1,5 +1,5 @@
--- all.Lts
-use Rattle.std.proofs.Common.{◌-◌, ◌≤◌, length, rules}
+-- The loops of `cases::all`: what stays true from turn to turn, and the measure. Assumes nothing.
+use Rattle.std.proofs.Common.{◌-◌, ◌≤◌, length}
 use Rattle.cases.proofs.all.Given as goal
 
 abbrev pub invariant-loop-at : goal.invariant-loop-at

@@ -1,5 +1,5 @@
--- mark.Lts
-use Rattle.std.proofs.Common.{◌-◌, ◌≤◌, length, rules}
+-- The loops of `cases::mark`: what stays true from turn to turn, and the measure. Assumes nothing.
+use Rattle.std.proofs.Common.{◌-◌, ◌≤◌, length}
 use Rattle.cases.proofs.mark.Given as goal
 
 abbrev pub invariant-loop-i : goal.invariant-loop-i

@@ -1,5 +1,5 @@
--- records.Lts
-use Rattle.std.proofs.Common.{◌≡◌, length, rules}
+-- The loops of `replay::records`: what stays true from turn to turn, and the measure. Assumes nothing.
+use Rattle.std.proofs.Common.{◌≡◌, length}
 use Rattle.replay.proofs.records.Given as goal
 
 abbrev pub invariant-loop-left : goal.invariant-loop-left

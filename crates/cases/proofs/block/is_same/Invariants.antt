@@ -1,5 +1,5 @@
--- block.is_same.Lts
-use Rattle.std.proofs.Common.{◌-◌, ◌≤◌, length, rules}
+-- The loops of `cases::block::is_same`: what stays true from turn to turn, and the measure. Assumes nothing.
+use Rattle.std.proofs.Common.{◌-◌, ◌≤◌, length}
 use Rattle.cases.proofs.block.is_same.Given as goal
 
 abbrev pub invariant-loop-k : goal.invariant-loop-k

@@ -1,5 +1,5 @@
--- say.is_untouched.Lts
-use Rattle.std.proofs.Common.{◌-◌, ◌≤◌, length, rules}
+-- The loops of `cases::say::is_untouched`: what stays true from turn to turn, and the measure. Assumes nothing.
+use Rattle.std.proofs.Common.{◌-◌, ◌≤◌, length}
 use Rattle.cases.proofs.say.is_untouched.Given as goal
 
 abbrev pub invariant-loop-i : goal.invariant-loop-i

@@ -1,5 +1,5 @@
--- parse.differing.Lts
-use Rattle.std.proofs.Common.{◌-◌, ◌≤◌, length, rules}
+-- The loops of `padding_cases::parse::differing`: what stays true from turn to turn, and the measure. Assumes nothing.
+use Rattle.std.proofs.Common.{◌-◌, ◌≤◌, length}
 use Rattle.padding_cases.proofs.parse.differing.Given as goal
 
 abbrev pub invariant-loop-k : goal.invariant-loop-k

@@ -1,5 +1,5 @@
--- say.unless_all.Lts
-use Rattle.std.proofs.Common.{◌-◌, ◌≤◌, length, rules}
+-- The loops of `padding_cases::say::unless_all`: what stays true from turn to turn, and the measure. Assumes nothing.
+use Rattle.std.proofs.Common.{◌-◌, ◌≤◌, length}
 use Rattle.padding_cases.proofs.say.unless_all.Given as goal
 
 abbrev pub invariant-loop-k : goal.invariant-loop-k

@@ -1,5 +1,5 @@
--- say.bytes.Lts
-use Rattle.std.proofs.Common.{◌-◌, ◌≤◌, length, rules}
+-- The loops of `replay::say::bytes`: what stays true from turn to turn, and the measure. Assumes nothing.
+use Rattle.std.proofs.Common.{◌-◌, ◌≤◌, length}
 use Rattle.replay.proofs.say.bytes.Given as goal
 
 abbrev pub invariant-loop-i : goal.invariant-loop-i
