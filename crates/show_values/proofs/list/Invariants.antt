@@ -1,10 +1,5 @@
-<<<<<<< HEAD
 -- The loops of `show_values::list`: what stays true from turn to turn, and the measure. Assumes nothing.
-use Rattle.std.proofs.Common.{◌-◌, ◌≤◌, rules}
-=======
--- list.Lts
 use Rattle.std.proofs.Common.{◌-◌, ◌≤◌}
->>>>>>> c07d6ddc0d21a247f602d7e5184bd463ea718893
 use Rattle.show_values.proofs.list.Given as goal
 
 abbrev pub invariant-loop-i : goal.invariant-loop-i
