@@ -1,12 +1,11 @@
 // The static library that C and Rust link: each function has the name that C calls, calls the function of that name in `gateway`, and states its
-// clauses again. See each module.
+// clauses again; `mdf_invert` stands in `invert_c`. See each module.
 
 #![tactic(auto)]
 
 pub mod applied;
 pub mod block;
 pub mod checked;
-pub mod inverted;
 pub mod moded;
 pub mod place;
 pub mod text;

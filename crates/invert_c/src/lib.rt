@@ -1,4 +1,8 @@
-// Making the inverse of a block.
+// The static library of the one function of C's that makes the inverse of a block, beside `gateway_c`. It is compiled by Rattle's own compiler: its search
+// for a repeated text fills arrays, which the other zeroes first by a call of the C library's memset, and the archive calls no library.
+
+#![tactic(auto)]
+
 ghost use Rattle.std.specs.Prelude.{◌≡◌};
 ghost use Rattle.inverse.specs.Invert.{inverting};
 ghost use Rattle.faces.specs.Inverted.{face_inverted, inverting_face};
