@@ -12,7 +12,7 @@ export MF4_SOURCE CARGO_REGISTRY
 
 .PHONY: test demo face repair compare sharp record bench kit
 
-# The gate comes first and proves everything from nothing; a must-fail edit that it could not try fails it here too. The faces and the comparison
+# The gate comes first and proves everything that it has not passed here yet; a must-fail edit that it could not try fails it here too. The faces and the comparison
 # then link what rt builds of the same files; the comparison runs where its source and packages are at hand, or can be installed, and is otherwise
 # named in one line. The gate's verdict is said again at the end.
 test: kit
