@@ -2,8 +2,5 @@
 use Rattle.gateway.proofs.Faces.{faced}
 use Rattle.gateway.proofs.applied.mdf_apply_float.Goals as goal
 
--- TODO slice-aggregate-apply : tie.Need-slice-aggregate-apply
--- slice-aggregate-apply c = search rules
-
 pub returns : goal.returns
 returns c = faced _ _ _ _ c.apply.ensures c.applied_face.ensures

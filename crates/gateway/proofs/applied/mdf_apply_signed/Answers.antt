@@ -4,8 +4,5 @@ use mir.ValLaws.{to_z-of_z}
 use Rattle.gateway.proofs.Faces.{faced}
 use Rattle.gateway.proofs.applied.mdf_apply_signed.Goals as goal
 
--- TODO slice-aggregate-apply : tie.Need-slice-aggregate-apply
--- slice-aggregate-apply c = search rules
-
 pub returns : goal.returns
 returns c = faced _ _ _ _ (rw (to_z-of_z w64 c.args.value c.ranges.value) at c.apply.ensures) c.applied_face.ensures

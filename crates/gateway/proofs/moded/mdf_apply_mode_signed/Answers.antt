@@ -4,8 +4,5 @@ use mir.ValLaws.{to_z-of_z}
 use Rattle.gateway.proofs.Faces.{faced}
 use Rattle.gateway.proofs.moded.mdf_apply_mode_signed.Goals as goal
 
--- TODO slice-aggregate-apply-at : tie.Need-slice-aggregate-apply-at
--- slice-aggregate-apply-at c = search rules
-
 pub returns : goal.returns
 returns c = faced _ _ _ _ (rw (to_z-of_z w64 c.args.value c.ranges.value) at c.apply_at.ensures) c.applied_face.ensures
