@@ -33,7 +33,7 @@ demo: kit
 # The archive that C and Rust link is proved before it is built, and shown likewise; what the prover says is kept in target/face.log.
 face: kit
 	@mkdir -p target; echo "Proving what C and Rust link: some minutes the first time."
-	@tools/progress target/face.log gateway_c ../../tools/archive || { tail -n 20 target/face.log; exit 1; }
+	@tools/progress target/face.log 'gateway_c invert_c' ../../tools/archive || { tail -n 20 target/face.log; exit 1; }
 	@sh face/test.sh
 
 # The program of crate repair_block, proved, and run on inputs whose answers tools/repaired.py works out.

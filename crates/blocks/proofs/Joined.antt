@@ -1,4 +1,5 @@
 -- The record made of its parts is the block that the definition names. Assumes nothing.
+use Rattle.std.specs.Prelude.{Option}
 use mathlib.Core.Path.{◌≡◌, ap}
 use mathlib.Core.Bool.{Bool}
 use mathlib.Core.List.{List}
@@ -24,7 +25,7 @@ module _ (img : List ℕ) (at : ℕ) (head : Header) (place : ℕ) (fields : Fie
   unfolding block_end values_place
   range_room e = let s = ap range_size ranged_is in omega (arith, p, s)
 
-  pub joined_is : (fixed : Fixed) (range : Range) (refs values : ℕ) → fixed ≡ fixed_at img (at + 24)
+  pub joined_is : (fixed : Fixed) (range : Option Range) (refs values : ℕ) → fixed ≡ fixed_at img (at + 24)
       → range ≡ range_at img (place + 8) ranged → refs ≡ at + 56 → values ≡ values_place img at
       → record_from head.length head.links fixed fields range refs values 0 0 ≡ block_at img at
   unfolding header_at fields_at val_count is_ranged block_at

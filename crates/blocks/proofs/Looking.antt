@@ -1,4 +1,5 @@
 -- What is seen of a block, from the numbers that are read of it. Assumes nothing.
+use Rattle.std.specs.Prelude.{Err, None, Ok, Some}
 use mathlib.Core.Path.{◌≡◌, refl, sym, ap, ◌∙◌}
 use mathlib.Core.Bool.{Bool, true, false, cond}
 use mathlib.Core.List.{List}
@@ -12,8 +13,6 @@ use Rattle.words.specs.Words.{word16, word64}
 use Rattle.blocks.specs.Block.{ref_count, fields_place, fields_at, val_count, has_range, is_ranged, range_size, values_place, block_end, block_at, opened}
 use Rattle.blocks.specs.View.{view_of, seen_of, seen}
 use Rattle.blocks.specs.declared.view.View.{View}
-use Rattle.blocks.specs.declared.view.Seen.TheVariants.{Open, Cut}
-use Rattle.blocks.specs.declared.Parsed.TheVariants.{Whole, Refused}
 use Rattle.common.specs.declared.refusal.Refusal.TheVariants.{Short}
 use Rattle.blocks.proofs.Opening.{opened_short, opened_whole}
 
@@ -28,7 +27,7 @@ module _ (img : List ℕ) (a links refs : ℕ) (l : links ≡ word64 img (a + 16
   place_is = omega (arith, refs_are)
 
   -- the image ends before the fields do
-  pub cut_early : ListN.length img < a + 64 + 8 * refs → Cut ≡ seen img a
+  pub cut_early : ListN.length img < a + 64 + 8 * refs → None ≡ seen img a
   unfolding seen block_end values_place
   cut_early h = ap seen_of (sym (opened_short img a (omega (arith, place_is))))
 
@@ -47,13 +46,13 @@ module _ (img : List ℕ) (a links refs : ℕ) (l : links ≡ word64 img (a + 16
     unfolding values_place
     first_is = let e = s ∙ ap range_size ranged_is in omega (arith, place_is, e)
 
-    pub cut_late : ListN.length img < a + 56 + 8 * refs + 8 + size + 8 * values → Cut ≡ seen img a
+    pub cut_late : ListN.length img < a + 56 + 8 * refs + 8 + size + 8 * values → None ≡ seen img a
     unfolding seen block_end
     cut_late h = ap seen_of (sym (opened_short img a (omega (arith, first_is, values_are))))
 
     view_is : (kind : ℕ) → kind ≡ ListN.get_or img (a + 56 + 8 * refs) 0
-        → Open (record { kind = kind; refs = refs; firstref = a + 56; valcount = values; firstval = a + 56 + 8 * refs + 8 + size })
-        ≡ seen_of (Whole (block_at img a))
+        → Some (record { kind = kind; refs = refs; firstref = a + 56; valcount = values; firstval = a + 56 + 8 * refs + 8 + size })
+        ≡ seen_of (Ok (block_at img a))
     unfolding block_at fields_at ref_count val_count
     view_is kind k =
         let kk : kind ≡ ListN.get_or img (fields_place img a) 0 = k ∙ ap (λ (p : ℕ). ListN.get_or img p 0) place_is in
@@ -61,40 +60,40 @@ module _ (img : List ℕ) (a links refs : ℕ) (l : links ≡ word64 img (a + 16
 
     pub seen_whole : (kind : ℕ) → kind ≡ ListN.get_or img (a + 56 + 8 * refs) 0
         → a + 56 + 8 * refs + 8 + size + 8 * values ≤ ListN.length img
-        → Open (record { kind = kind; refs = refs; firstref = a + 56; valcount = values; firstval = a + 56 + 8 * refs + 8 + size }) ≡ seen img a
+        → Some (record { kind = kind; refs = refs; firstref = a + 56; valcount = values; firstval = a + 56 + 8 * refs + 8 + size }) ≡ seen img a
     unfolding seen block_end
     seen_whole kind k h = view_is kind k ∙ ap seen_of (sym (opened_whole img a (omega (arith, first_is, values_are))))
 
 -- ---- and what a view tells of its block
 pub record IsOpen (img : List ℕ) (a : ℕ) (v : View) : Type 0 where
-  pub whole : opened img a ≡ Whole (block_at img a)
+  pub whole : opened img a ≡ Ok (block_at img a)
   pub fits : block_end img a ≤ ListN.length img
   pub same : v ≡ view_of (block_at img a)
 
-pub seen_open : (img : List ℕ) (a : ℕ) (v : View) → seen img a ≡ Open v → IsOpen img a v
+pub seen_open : (img : List ℕ) (a : ℕ) (v : View) → seen img a ≡ Some v → IsOpen img a v
 unfolding seen opened
 seen_open img a v e = go (leb (block_end img a) (ListN.length img)) refl e
   where
     go : (b : Bool) → leb (block_end img a) (ListN.length img) ≡ b
-        → seen_of (cond b (Whole (block_at img a)) (Refused (Short a))) ≡ Open v → IsOpen img a v
+        → seen_of (cond b (Ok (block_at img a)) (Err (Short a))) ≡ Some v → IsOpen img a v
     go true t p =
         record {
-          whole = ap (λ (x : Bool). cond x (Whole (block_at img a)) (Refused (Short a))) t;
+          whole = ap (λ (x : Bool). cond x (Ok (block_at img a)) (Err (Short a))) t;
           fits = leb-true _ _ t;
           same = (cc);
         }
     go false t p = clash cc
 
-pub seen_cut : (img : List ℕ) (a : ℕ) → seen img a ≡ Cut → opened img a ≡ Refused (Short a)
+pub seen_cut : (img : List ℕ) (a : ℕ) → seen img a ≡ None → opened img a ≡ Err (Short a)
 unfolding seen opened
 seen_cut img a e = go (leb (block_end img a) (ListN.length img)) e
   where
-    go : (b : Bool) → seen_of (cond b (Whole (block_at img a)) (Refused (Short a))) ≡ Cut
-        → cond b (Whole (block_at img a)) (Refused (Short a)) ≡ Refused (Short a)
+    go : (b : Bool) → seen_of (cond b (Ok (block_at img a)) (Err (Short a))) ≡ None
+        → cond b (Ok (block_at img a)) (Err (Short a)) ≡ Err (Short a)
     go true p = clash cc
     go false p = refl
 
-module _ (img : List ℕ) (a : ℕ) (v : View) (e : seen img a ≡ Open v) where
+module _ (img : List ℕ) (a : ℕ) (v : View) (e : seen img a ≡ Some v) where
   pub seen_refs : v.refs ≡ ref_count img a
   unfolding block_at ref_count
   seen_refs = ap (λ (x : View). x.refs) (seen_open img a v e).same

@@ -1,4 +1,5 @@
 -- What the tests of parsing say, and what it answers after each. Assumes nothing.
+use Rattle.std.specs.Prelude.{Err, Ok}
 use mathlib.Core.Path.{◌≡◌, refl, sym, ap, ◌∙◌}
 use mathlib.Core.Bool.{Bool, true, false, cond}
 use mathlib.Core.List.{List}
@@ -13,24 +14,19 @@ use Rattle.common.specs.Header.{inside, is_conversion}
 use Rattle.common.proofs.Headers.{inside_fits, of_conversion}
 use Rattle.blocks.specs.Block.{block_end, block_at, opened, parsed_for_repair, few_links, retired, parsed}
 use Rattle.blocks.specs.declared.Block.{Block}
-use Rattle.blocks.specs.declared.Parsed.TheVariants.{Whole, Refused}
 use Rattle.common.specs.declared.refusal.Refusal.{Refusal}
 use Rattle.common.specs.declared.refusal.Refusal.TheVariants.{Short, FewLinks}
 
 module _ (img : List ℕ) (a : ℕ) where
-  pub parsed_retired : retired img a ≡ true → parsed img a ≡ Refused (FewLinks a)
-  unfolding parsed
-  parsed_retired h = rw h
-
   pub parsed_read : retired img a ≡ false → parsed img a ≡ parsed_for_repair img a
   unfolding parsed
   parsed_read h = rw h
 
-  pub opened_short : length img < block_end img a → opened img a ≡ Refused (Short a)
+  pub opened_short : length img < block_end img a → opened img a ≡ Err (Short a)
   unfolding opened
   opened_short h = simp (lt-leb _ _ h)
 
-  pub opened_whole : block_end img a ≤ length img → opened img a ≡ Whole (block_at img a)
+  pub opened_whole : block_end img a ≤ length img → opened img a ≡ Ok (block_at img a)
   unfolding opened
   opened_whole h = simp (le-leb _ _ h)
 
@@ -42,13 +38,13 @@ pub record IsWhole (img : List ℕ) (a : ℕ) (b : Block) : Type 0 where
   pub same : b ≡ block_at img a
 
 tests : (x y z : Bool) (b c : Block) (p q r : Refusal)
-    → cond x (cond y (cond z (Whole c) (Refused p)) (Refused q)) (Refused r) ≡ Whole b → (x ≡ true) × (y ≡ true) × (z ≡ true) × (b ≡ c)
+    → cond x (cond y (cond z (Ok c) (Err p)) (Err q)) (Err r) ≡ Ok b → (x ≡ true) × (y ≡ true) × (z ≡ true) × (b ≡ c)
 tests true true true b c p q r e = (refl, refl, refl, (cc))
 tests true true false b c p q r e = clash cc
 tests true false z b c p q r e = clash cc
 tests false y z b c p q r e = clash cc
 
-pub read_whole : (img : List ℕ) (a : ℕ) (b : Block) → parsed_for_repair img a ≡ Whole b → IsWhole img a b
+pub read_whole : (img : List ℕ) (a : ℕ) (b : Block) → parsed_for_repair img a ≡ Ok b → IsWhole img a b
 unfolding parsed_for_repair opened
 read_whole img a b e =
     let t = tests (inside img a) (is_conversion img a) (leb (block_end img a) (length img)) b (block_at img a) _ _ _ e in
@@ -60,7 +56,7 @@ read_whole img a b e =
     }
 
 -- a block that is read is parsed exactly where it has the four fixed links
-module _ (img : List ℕ) (a : ℕ) (b : Block) (whole : parsed_for_repair img a ≡ Whole b) where
+module _ (img : List ℕ) (a : ℕ) (b : Block) (whole : parsed_for_repair img a ≡ Ok b) where
   retired_is : retired img a ≡ few_links img a
   unfolding retired inside
   retired_is = let w = read_whole img a b whole in of_conversion img a _ _ _ (le-leb (a + 24) (length img) w.header) w.conversion
@@ -69,7 +65,7 @@ module _ (img : List ℕ) (a : ℕ) (b : Block) (whole : parsed_for_repair img a
   unfolding block_at
   links_are = ap (λ (x : Block). x.links) (read_whole img a b whole).same
 
-  pub read_parses : 4 ≤ b.links → parsed img a ≡ Whole b
+  pub read_parses : 4 ≤ b.links → parsed img a ≡ Ok b
   unfolding few_links
   read_parses h = parsed_read img a (retired_is ∙ le-ltb (word64 img (a + 16)) 4 (omega (arith, links_are))) ∙ whole
 
@@ -77,14 +73,14 @@ module _ (img : List ℕ) (a : ℕ) (b : Block) (whole : parsed_for_repair img a
   unfolding few_links
   read_enough e = let h = ltb-false (word64 img (a + 16)) 4 (sym retired_is ∙ e) in omega (arith, links_are)
 
-pub parsed_is_read : (img : List ℕ) (a : ℕ) (b : Block) → parsed img a ≡ Whole b → (parsed_for_repair img a ≡ Whole b) × (4 ≤ b.links)
+pub parsed_is_read : (img : List ℕ) (a : ℕ) (b : Block) → parsed img a ≡ Ok b → (parsed_for_repair img a ≡ Ok b) × (4 ≤ b.links)
 unfolding parsed
 parsed_is_read img a b = go (retired img a) refl
   where
-    go : (x : Bool) → retired img a ≡ x → cond x (Refused (FewLinks a)) (parsed_for_repair img a) ≡ Whole b
-        → (parsed_for_repair img a ≡ Whole b) × (4 ≤ b.links)
+    go : (x : Bool) → retired img a ≡ x → cond x (Err (FewLinks a)) (parsed_for_repair img a) ≡ Ok b
+        → (parsed_for_repair img a ≡ Ok b) × (4 ≤ b.links)
     go true t p = clash cc
     go false t p = (p, read_enough img a b p t)
 
-pub parsed_whole : (img : List ℕ) (a : ℕ) (b : Block) → parsed img a ≡ Whole b → IsWhole img a b
+pub parsed_whole : (img : List ℕ) (a : ℕ) (b : Block) → parsed img a ≡ Ok b → IsWhole img a b
 parsed_whole img a b e = read_whole img a b (parsed_is_read img a b e).0

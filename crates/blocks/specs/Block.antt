@@ -1,17 +1,14 @@
 -- The bytes of a ##CC block (document 01, "Bytes of a block"), in the document's order, and the link counts that parsing refuses (request [11]).
 -- Assumes nothing: these are definitions.
-use Rattle.std.specs.Prelude.{ℕ, ◌+◌, ◌-◌, ◌*◌, Bool, true, false, cond, List, leb, ltb}
+use Rattle.std.specs.Prelude.{ℕ, Option, Some, None, Result, Ok, Err, ◌+◌, ◌-◌, ◌*◌, Bool, true, false, cond, List, leb, ltb}
 use Rattle.std.proofs.Math.ListN as ListN
-use Rattle.std.specs.Float.{binary64}
-use Rattle.std.specs.Float.Ieee.{of_bits}
 use Rattle.words.specs.Words.{word16, word64, value_at}
 use Rattle.common.specs.Header.{inside, is_conversion}
 use Rattle.blocks.specs.declared.Fixed.{Fixed}
 use Rattle.blocks.specs.declared.Fields.{Fields}
 use Rattle.blocks.specs.declared.Range.{Range}
 use Rattle.blocks.specs.declared.Block.{Block}
-use Rattle.blocks.specs.declared.Parsed.{Parsed}
-use Rattle.blocks.specs.declared.Parsed.TheVariants.{Whole, Refused}
+use Rattle.common.specs.declared.refusal.Refusal.{Refusal}
 use Rattle.common.specs.declared.refusal.Refusal.TheVariants.{Outside, NotConversion, Short, FewLinks}
 
 -- four fixed links: name, unit, comment, inverse
@@ -52,15 +49,11 @@ abbrev pub range_size : Bool → ℕ
 range_size true = 16
 range_size false = 0
 
--- no range: its fields are zero
-abbrev pub no_range : Range
-no_range = record { ranged = false; minimum = of_bits binary64 0; maximum = of_bits binary64 0; minword = 0; maxword = 0 }
-
 -- the range is there whole or not at all
-abbrev pub range_at : List ℕ → ℕ → Bool → Range
+abbrev pub range_at : List ℕ → ℕ → Bool → Option Range
 range_at img p true =
-    record { ranged = true; minimum = value_at img p; maximum = value_at img (p + 8); minword = word64 img p; maxword = word64 img (p + 8) }
-range_at img p false = no_range
+    Some (record { minimum = value_at img p; maximum = value_at img (p + 8); minword = word64 img p; maxword = word64 img (p + 8) })
+range_at img p false = None
 
 -- the f64 values, as many as the value count says
 unfoldable pub values_place : List ℕ → ℕ → ℕ
@@ -71,7 +64,7 @@ unfoldable pub block_end : List ℕ → ℕ → ℕ
 block_end img a = values_place img a + 8 * val_count img a
 
 -- the record of these parts; the last two are the padding: reserved bytes and excess
-abbrev pub record_from : ℕ → ℕ → Fixed → Fields → Range → ℕ → ℕ → ℕ → ℕ → Block
+abbrev pub record_from : ℕ → ℕ → Fixed → Fields → Option Range → ℕ → ℕ → ℕ → ℕ → Block
 record_from length links fixed fields range refs values reserved excess =
     record {
       length = length;
@@ -85,11 +78,7 @@ record_from length links fixed fields range refs values reserved excess =
       flags = fields.flags;
       refcount = fields.refcount;
       valcount = fields.valcount;
-      ranged = range.ranged;
-      minimum = range.minimum;
-      maximum = range.maximum;
-      minword = range.minword;
-      maxword = range.maxword;
+      range = range;
       firstref = refs;
       firstval = values;
       reserved = reserved;
@@ -112,15 +101,15 @@ block_at img a =
 
 -- a ##CC block whose header lies in the image, whatever its link count: whole, or Short where the image ends inside it. Sums are exact, so a huge
 -- link count is Short
-unfoldable pub opened : List ℕ → ℕ → Parsed
-opened img a = cond (leb (block_end img a) (ListN.length img)) (Whole (block_at img a)) (Refused (Short a))
+unfoldable pub opened : List ℕ → ℕ → Result Block Refusal
+opened img a = cond (leb (block_end img a) (ListN.length img)) (Ok (block_at img a)) (Err (Short a))
 
 -- document 01's parsing of one block, whatever its link count, gives 1, 2 or 4: a block that is repaired is read so
-unfoldable pub parsed_for_repair : List ℕ → ℕ → Parsed
+unfoldable pub parsed_for_repair : List ℕ → ℕ → Result Block Refusal
 parsed_for_repair img a =
     cond (inside img a)
-    (cond (is_conversion img a) (opened img a) (Refused (NotConversion a)))
-    (Refused (Outside a))
+    (cond (is_conversion img a) (opened img a) (Err (NotConversion a)))
+    (Err (Outside a))
 
 -- a link count below 4
 unfoldable pub few_links : List ℕ → ℕ → Bool
@@ -131,5 +120,5 @@ unfoldable pub retired : List ℕ → ℕ → Bool
 retired img a = cond (inside img a) (cond (is_conversion img a) (few_links img a) false) false
 
 -- parsing one block gives 1, 2, 18 or 4: document 01's parsing, with the test for 18 before it
-unfoldable pub parsed : List ℕ → ℕ → Parsed
-parsed img a = cond (retired img a) (Refused (FewLinks a)) (parsed_for_repair img a)
+unfoldable pub parsed : List ℕ → ℕ → Result Block Refusal
+parsed img a = cond (retired img a) (Err (FewLinks a)) (parsed_for_repair img a)

@@ -1,12 +1,11 @@
 -- Records that are made and not read (document 01, "The right form for each place": "construction functions on the record's type"). Assumes
 -- nothing: these are definitions.
-use Rattle.std.specs.Prelude.{ℕ, true, Float}
+use Rattle.std.specs.Prelude.{ℕ, Some, None, Float}
 use Rattle.std.specs.Float.{binary64}
 use Rattle.std.specs.Float.Ieee.{to_bits}
-use Rattle.blocks.specs.Block.{no_range, record_from}
+use Rattle.blocks.specs.Block.{record_from}
 use Rattle.blocks.specs.declared.Fixed.{Fixed}
 use Rattle.blocks.specs.declared.Fields.{Fields}
-use Rattle.blocks.specs.declared.Range.{Range}
 use Rattle.blocks.specs.declared.Block.{Block}
 
 -- the parts of a record
@@ -17,17 +16,13 @@ abbrev pub fields_of : Block → Fields
 fields_of b =
     record { kind = b.kind; precision = b.precision; flags = b.flags; refcount = b.refcount; valcount = b.valcount }
 
-abbrev pub range_of : Block → Range
-range_of b =
-    record { ranged = b.ranged; minimum = b.minimum; maximum = b.maximum; minword = b.minword; maxword = b.maxword }
-
 -- a block of a type with four NIL links, no reference, no value, no range and no padding is 64 bytes long
 abbrev pub empty_of : ℕ → Block
 empty_of kind =
     record_from 64 4
     (record { name = 0; unit = 0; comment = 0; inverse = 0 })
     (record { kind = kind; precision = 0; flags = 0; refcount = 0; valcount = 0 })
-    no_range
+    None
     56
     64
     0
@@ -41,7 +36,7 @@ with_links b name unit comment inverse =
     b.links
     (record { name = name; unit = unit; comment = comment; inverse = inverse })
     (fields_of b)
-    (range_of b)
+    b.range
     b.firstref
     b.firstval
     b.reserved
@@ -55,7 +50,7 @@ with_details b precision flags refcount =
     b.links
     (fixed_of b)
     (record { kind = b.kind; precision = precision; flags = flags; refcount = refcount; valcount = b.valcount })
-    (range_of b)
+    b.range
     b.firstref
     b.firstval
     b.reserved
@@ -69,7 +64,7 @@ with_range b minimum maximum =
     b.links
     (fixed_of b)
     (fields_of b)
-    (record { ranged = true; minimum = minimum; maximum = maximum; minword = to_bits binary64 minimum; maxword = to_bits binary64 maximum })
+    (Some (record { minimum = minimum; maximum = maximum; minword = to_bits binary64 minimum; maxword = to_bits binary64 maximum }))
     b.firstref
     b.firstval
     b.reserved
@@ -79,4 +74,4 @@ with_range b minimum maximum =
 -- read")
 abbrev pub with_padding : Block → ℕ → ℕ → Block
 with_padding b reserved excess =
-    record_from b.length b.links (fixed_of b) (fields_of b) (range_of b) b.firstref b.firstval reserved excess
+    record_from b.length b.links (fixed_of b) (fields_of b) b.range b.firstref b.firstval reserved excess

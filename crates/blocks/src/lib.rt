@@ -10,13 +10,12 @@ ghost use Rattle.std.specs.Prelude.{◌≡◌, ◌+◌, ◌-◌, ◌*◌, ◌≤
 ghost use Rattle.std.proofs.Math.ListN as ListN;
 ghost use Rattle.blocks.specs.Block.{fixed_at, fields_at, range_at, range_size, has_range, block_at, opened, parsed_for_repair, few_links, retired, parsed};
 ghost use Rattle.blocks.specs.View.{seen};
-ghost use Rattle.blocks.specs.declared.view.Seen.TheVariants.{Open};
 ghost use Rattle.blocks.specs.Make.{empty_of, with_links, with_details, with_range, with_padding};
 ghost use Rattle.blocks.specs.Place.{reference_of, value_word_of, value_of};
 
 use common::header::Header;
-use common::refusal::{Refusal, Word};
-use view::{Seen, View};
+use common::refusal::Refusal;
+use view::View;
 use words::Cursor;
 
 #[derive(Clone, Copy)]
@@ -29,18 +28,15 @@ pub struct Block {
     pub unit: u64,
     pub comment: u64,
     pub inverse: u64,
+    // The type by its number, as the block has it: an unknown one is kept, and written as it stands.
     pub kind: u8,
     pub precision: u8,
     pub flags: u16,
     // The stored reference count, which sets no reading.
     pub refcount: u16,
     pub valcount: u16,
-    // The range is there whole or not at all. The words are the 64 bits behind the two floats, which a NaN does not tell.
-    pub ranged: bool,
-    pub minimum: f64,
-    pub maximum: f64,
-    pub minword: u64,
-    pub maxword: u64,
+    // There whole or not at all.
+    pub range: Option<Range>,
     // The places of the first reference and of the first value.
     pub firstref: u64,
     pub firstval: u64,
@@ -49,20 +45,7 @@ pub struct Block {
     pub excess: u64,
 }
 
-#[derive(Clone, Copy)]
-pub enum Parsed {
-    Whole(Block),
-    Refused(Refusal),
-}
-
-// A value, where there is one.
-#[derive(Clone, Copy)]
-pub enum Number {
-    Value(f64),
-    NoValue,
-}
-
-// The four fixed links.
+// The four fixed links. A record lists them and the fields below again, and does not hold these structs: whoever reads a record names its fields alone.
 #[derive(Clone, Copy)]
 pub struct Fixed {
     pub name: u64,
@@ -81,10 +64,9 @@ pub struct Fields {
     pub valcount: u16,
 }
 
-// The two range fields, as floats and as the words that spelled them.
+// The two range fields, as floats and as the words that spelled them: of a NaN the float does not tell its 64 bits.
 #[derive(Clone, Copy)]
 pub struct Range {
-    pub ranged: bool,
     pub minimum: f64,
     pub maximum: f64,
     pub minword: u64,
@@ -95,15 +77,15 @@ fn fixed_at(image: &[u8], at: usize) -> Fixed
     requires { at + 32 ≤ ListN.length image.now }
     ensures { result ≡ fixed_at image.now at }
 {
-    let name = Cursor::new(at).read_link(image);
-    let unit = name.next.read_link(image);
-    let comment = unit.next.read_link(image);
-    let inverse = comment.next.read_link(image);
+    let (name, cursor) = Cursor::new(image, at).read_link();
+    let (unit, cursor) = cursor.read_link();
+    let (comment, cursor) = cursor.read_link();
+    let (inverse, _) = cursor.read_link();
     Fixed {
-        name: name.value,
-        unit: unit.value,
-        comment: comment.value,
-        inverse: inverse.value,
+        name,
+        unit,
+        comment,
+        inverse,
     }
 }
 
@@ -111,42 +93,35 @@ fn fields_at(image: &[u8], at: usize) -> Fields
     requires { at + 8 ≤ ListN.length image.now }
     ensures { result ≡ fields_at image.now at }
 {
-    let kind = Cursor::new(at).read_u8(image);
-    let precision = kind.next.read_u8(image);
-    let flags = precision.next.read_u16(image);
-    let refcount = flags.next.read_u16(image);
-    let valcount = refcount.next.read_u16(image);
+    let (kind, cursor) = Cursor::new(image, at).read_u8();
+    let (precision, cursor) = cursor.read_u8();
+    let (flags, cursor) = cursor.read_u16();
+    let (refcount, cursor) = cursor.read_u16();
+    let (valcount, _) = cursor.read_u16();
     Fields {
-        kind: kind.value,
-        precision: precision.value,
-        flags: flags.value,
-        refcount: refcount.value,
-        valcount: valcount.value,
+        kind,
+        precision,
+        flags,
+        refcount,
+        valcount,
     }
 }
 
-fn range_at(image: &[u8], at: usize, ranged: bool) -> Range
+fn range_at(image: &[u8], at: usize, ranged: bool) -> Option<Range>
     requires { at + range_size ranged ≤ ListN.length image.now }
     ensures { result ≡ range_at image.now at ranged }
 {
     if ranged {
-        let minimum = Cursor::new(at).read_f64(image);
-        let maximum = minimum.next.read_f64(image);
-        Range {
-            ranged: true,
-            minimum: minimum.value,
-            maximum: maximum.value,
-            minword: minimum.word,
-            maxword: maximum.word,
-        }
+        let (minimum, minword, cursor) = Cursor::new(image, at).read_f64();
+        let (maximum, maxword, _) = cursor.read_f64();
+        Some(Range {
+            minimum,
+            maximum,
+            minword,
+            maxword,
+        })
     } else {
-        Range {
-            ranged: false,
-            minimum: 0.0,
-            maximum: 0.0,
-            minword: 0,
-            maxword: 0,
-        }
+        None
     }
 }
 
@@ -168,11 +143,7 @@ fn has_range(length: u64, links: u64, valcount: u16) -> bool
 fn less_fixed(links: u64) -> u64
     ensures { result ≡ links - 4 }
 {
-    if links < Block::FIXED {
-        0
-    } else {
-        links - Block::FIXED
-    }
+    links.saturating_sub(Block::FIXED)
 }
 
 impl Block {
@@ -198,11 +169,7 @@ impl Block {
             flags: 0,
             refcount: 0,
             valcount: 0,
-            ranged: false,
-            minimum: 0.0,
-            maximum: 0.0,
-            minword: 0,
-            maxword: 0,
+            range: None,
             firstref: 56,
             firstval: 64,
             reserved: 0,
@@ -235,11 +202,12 @@ impl Block {
     pub fn with_range(mut self, minimum: f64, maximum: f64) -> Block
         ensures { result ≡ with_range self minimum maximum }
     {
-        self.ranged = true;
-        self.minimum = minimum;
-        self.maximum = maximum;
-        self.minword = floats::to_bits(minimum);
-        self.maxword = floats::to_bits(maximum);
+        self.range = Some(Range {
+            minimum,
+            maximum,
+            minword: floats::to_bits(minimum),
+            maxword: floats::to_bits(maximum),
+        });
         self
     }
 
@@ -254,7 +222,7 @@ impl Block {
 
     // The record of a block that lies whole in the image, as it was seen.
     fn assembled(image: &[u8], at: usize, view: View) -> Block
-        requires { (at + 64 + 8 * view.refs ≤ ListN.length image.now) × (seen image.now at ≡ Open view) }
+        requires { (at + 64 + 8 * view.refs ≤ ListN.length image.now) × (seen image.now at ≡ Some view) }
         ensures { result ≡ block_at image.now at }
     {
         let head = Header::read(image, at);
@@ -275,11 +243,7 @@ impl Block {
             flags: fields.flags,
             refcount: fields.refcount,
             valcount: fields.valcount,
-            ranged: range.ranged,
-            minimum: range.minimum,
-            maximum: range.maximum,
-            minword: range.minword,
-            maxword: range.maxword,
+            range,
             firstref: view.firstref,
             firstval: view.firstval,
             reserved: 0,
@@ -288,33 +252,31 @@ impl Block {
     }
 
     // The block at `at`, whose header lies in the image and has the id ##CC, whatever its link count: whole, or Short.
-    pub fn read(image: &[u8], at: usize) -> Parsed
+    pub fn read(image: &[u8], at: usize) -> Result<Block, Refusal>
         requires { at + 24 ≤ ListN.length image.now }
         ensures { result ≡ opened image.now at }
     {
-        match View::look(image, at) {
-            Seen::Open(view) => Parsed::Whole(Block::assembled(image, at, view)),
-            Seen::Cut => Parsed::Refused(Refusal::Short(at as u64)),
-        }
+        let view = View::look(image, at).ok_or(Refusal::Short(at as u64))?;
+        Ok(Block::assembled(image, at, view))
     }
 
     // The block at an address of an image, whatever its link count, as document 01 reads it: for the repair.
-    pub fn parse_for_repair(image: &[u8], address: u64) -> Parsed
+    #[tactic(auto, using(common::proofs::Headers::inside_fits), unfolding(crate::specs::Block::parsed_for_repair))]
+    pub fn parse_for_repair(image: &[u8], address: u64) -> Result<Block, Refusal>
         ensures { result ≡ parsed_for_repair image.now address }
     {
-        if Header::is_inside(image, address) {
-            let at = address as usize;
-            if Header::is_conversion(image, at) {
-                Block::read(image, at)
-            } else {
-                Parsed::Refused(Refusal::NotConversion(address))
-            }
-        } else {
-            Parsed::Refused(Refusal::Outside(address))
+        if !Header::is_inside(image, address) {
+            return Err(Refusal::Outside(address));
         }
+        let at = address as usize;
+        if !Header::is_conversion(image, at) {
+            return Err(Refusal::NotConversion(address));
+        }
+        Block::read(image, at)
     }
 
     // Whether the block at `at`, whose header lies in the image, has under four links.
+    #[tactic(auto, unfolding(crate::specs::Block::few_links))]
     pub fn has_few_links(image: &[u8], at: usize) -> bool
         requires { at + 24 ≤ ListN.length image.now }
         ensures { result ≡ few_links image.now at }
@@ -323,27 +285,26 @@ impl Block {
     }
 
     // Whether a ##CC block with under four links stands at an address.
+    #[tactic(auto, using(common::proofs::Headers::inside_fits), unfolding(crate::specs::Block::retired))]
     fn is_retired(image: &[u8], address: u64) -> bool
         ensures { result ≡ retired image.now address }
     {
-        if Header::is_inside(image, address) {
-            let at = address as usize;
-            if Header::is_conversion(image, at) {
-                return Block::has_few_links(image, at);
-            }
+        if !Header::is_inside(image, address) {
+            return false;
         }
-        false
+        let at = address as usize;
+        Header::is_conversion(image, at) && Block::has_few_links(image, at)
     }
 
     // The block at an address of an image.
-    pub fn parse(image: &[u8], address: u64) -> Parsed
+    #[tactic(auto, unfolding(crate::specs::Block::parsed))]
+    pub fn parse(image: &[u8], address: u64) -> Result<Block, Refusal>
         ensures { result ≡ parsed image.now address }
     {
         if Block::is_retired(image, address) {
-            Parsed::Refused(Refusal::FewLinks(address))
-        } else {
-            Block::parse_for_repair(image, address)
+            return Err(Refusal::FewLinks(address));
         }
+        Block::parse_for_repair(image, address)
     }
 
     // How many references it has.
@@ -354,23 +315,26 @@ impl Block {
     }
 
     // The i-th reference.
-    pub fn reference(self, image: &[u8], i: u64) -> Word
+    #[tactic(auto, unfolding(crate::specs::Place::reference_of, crate::specs::View::reference_in))]
+    pub fn reference(self, image: &[u8], i: u64) -> Option<u64>
         ensures { result ≡ reference_of image.now self i }
     {
-        View::of(self).reference(image, i)
+        View::from(self).reference(image, i)
     }
 
     // The i-th value's 64 bits.
-    pub fn value_word(self, image: &[u8], i: u64) -> Word
+    #[tactic(auto, unfolding(crate::specs::Place::value_word_of, crate::specs::View::value_word_in))]
+    pub fn value_word(self, image: &[u8], i: u64) -> Option<u64>
         ensures { result ≡ value_word_of image.now self i }
     {
-        View::of(self).value_word(image, i)
+        View::from(self).value_word(image, i)
     }
 
     // The i-th value.
-    pub fn value(self, image: &[u8], i: u64) -> Number
+    #[tactic(auto, unfolding(crate::specs::Place::value_of, crate::specs::Place::value_word_of, crate::specs::View::value_in, crate::specs::View::value_word_in))]
+    pub fn value(self, image: &[u8], i: u64) -> Option<f64>
         ensures { result ≡ value_of image.now self i }
     {
-        View::of(self).value(image, i)
+        View::from(self).value(image, i)
     }
 }

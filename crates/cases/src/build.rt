@@ -1,136 +1,129 @@
 // The commands that build an image, with nothing of the library's writer.
-use lines::build::{copy, fill, list, put};
-use lines::parts::{byte, part};
-use lines::read::{Found, number, text};
-use std::num::{wrapping_add_usize, wrapping_sub_usize};
-
-// 600000 bytes, in which a block of 65535 values has room, and behind them what the cases share.
-pub type Memory = [u8; 600056];
-
-// The address, the visit limit, the room, the width and the edition of a call, the size of the image, and the count of the values that the rules are
-// asked with.
-pub const ADDRESS: usize = 600000;
-
-pub const LIMIT: usize = 600008;
-
-pub const ROOM: usize = 600016;
-
-pub const WIDTH: usize = 600024;
-
-pub const EDITION: usize = 600032;
-
-pub const SIZE: usize = 600040;
-
-pub const COUNT: usize = 600048;
+use crate::memory::{ADDRESS, Memory};
+use lines::build::{Unit, copy, fill, list, put};
+use lines::read::{Form, NotUnderstood, Operands};
 
 // The values of the rules stand from here on, between bytes of 0x5a that would show if a place was wrong.
 pub const FIRST: usize = 27;
 
-// One more than the most values, and the bytes of the image that they stand in.
-const MORE: u64 = 65;
+// The most values, and the bytes of the image that they stand in.
+pub const MOST: usize = 64;
 
 pub const AROUND: usize = 600;
 
 // The ids ##CC and ##TX with zero reserved bytes.
 const CONVERSION: u64 = 0x43432323;
 
-const WORDS: u64 = 0x58542323;
+const TEXT: u64 = 0x58542323;
 
 // Type, reference count and value count as one word. Precision and flags are zero.
 fn fields(kind: u64, references: usize, values: usize) -> u64 {
-    let r = (references % 65536) as u64;
-    let v = (values % 65536) as u64;
-    kind % 256 + 4294967296 * r + 281474976710656 * v
+    let references = (references % 65536) as u64;
+    let values = (values % 65536) as u64;
+    kind % 256 + 4294967296 * references + 281474976710656 * values
 }
 
-// The header, four NIL links and the fields of a conversion block: the fields stand at `mid`, and the block ends at `end`.
-fn heading(mem: &mut Memory, at: usize, mid: usize, end: usize, kind: u64) {
-    let references = wrapping_sub_usize(wrapping_sub_usize(mid, at) / 8, 7);
-    let values = wrapping_sub_usize(wrapping_sub_usize(end, mid) / 8, 1);
-    let length = put(mem, at, CONVERSION, b'w');
-    let links = put(mem, length, wrapping_sub_usize(end, at) as u64, b'w');
-    let fixed = put(mem, links, wrapping_add_usize(references, 4) as u64, b'w');
-    fill(mem, fixed, wrapping_add_usize(fixed, 32), 0);
-    put(mem, mid, fields(kind, references, values), b'w');
+// Words one behind the other, and the place behind them.
+fn put_words(bytes: &mut [u8], start: usize, words: [u64; 3]) -> usize {
+    let mut at = start;
+    for word in words {
+        at = put(bytes, at, word, Unit::Word);
+    }
+    at
+}
+
+// The header, four NIL links and the fields of a conversion block: the fields stand at `middle`, and the block ends at `end`.
+fn heading(bytes: &mut [u8], start: usize, middle: usize, end: usize, kind: u64) {
+    let references = (middle.wrapping_sub(start) / 8).wrapping_sub(7);
+    let values = (end.wrapping_sub(middle) / 8).wrapping_sub(1);
+    let length = end.wrapping_sub(start) as u64;
+    let links = references.wrapping_add(4) as u64;
+    let fixed = put_words(bytes, start, [CONVERSION, length, links]);
+    fill(bytes, fixed, fixed.wrapping_add(32), 0);
+    put(bytes, middle, fields(kind, references, values), Unit::Word);
 }
 
 // A conversion block: its place and type, the references, and behind a semicolon the values.
-fn conversion(line: &[u8], mem: &mut Memory) -> bool {
-    let at = number(line, 2, b'w');
-    let kind = number(line, at.next, b'w');
-    let start = at.value as usize;
-    let refs = list(line, kind.next, b'w', wrapping_add_usize(start, 56), mem);
-    let from = wrapping_add_usize(refs.next, 2);
-    let values = list(line, from, b'd', wrapping_add_usize(refs.at, 8), mem);
-    heading(mem, start, refs.at, values.at, kind.value);
-    values.next == line.len()
+fn conversion(mut operands: Operands, bytes: &mut [u8]) -> Result<(), NotUnderstood> {
+    let start = operands.number(Form::Unsigned).unwrap_or(0) as usize;
+    let kind = operands.number(Form::Unsigned).unwrap_or(0);
+    let references = start.wrapping_add(56);
+    let middle = list(&mut operands, Form::Unsigned, Unit::Word, bytes, references);
+    // Before the semicolon stands a space.
+    let behind = operands.rest.get(2..);
+    let mut values = Operands {
+        rest: behind.unwrap_or(&[]),
+    };
+    let first = middle.wrapping_add(8);
+    let end = list(&mut values, Form::Float, Unit::Word, bytes, first);
+    heading(bytes, start, middle, end, kind);
+    behind.ok_or(NotUnderstood)?;
+    values.end()
 }
 
 // A text block with one zero byte behind its text.
-fn text_block(line: &[u8], mem: &mut Memory) -> bool {
-    let at = number(line, 2, b'w');
-    let t = text(line, at.next);
-    let bytes = part(line, t.from, t.to);
-    let size = wrapping_add_usize(bytes.len(), 25);
-    let start = at.value as usize;
-    let length = put(mem, start, WORDS, b'w');
-    let links = put(mem, length, size as u64, b'w');
-    let from = put(mem, links, 0, b'w');
-    copy(mem, from, wrapping_add_usize(start, size), bytes);
-    t.is_text
+fn text_block(mut operands: Operands, bytes: &mut [u8]) -> Result<(), NotUnderstood> {
+    let start = operands.number(Form::Unsigned).unwrap_or(0) as usize;
+    let text = operands.text();
+    let (Ok(bytes_of_text) | Err(bytes_of_text)) = text;
+    let size = bytes_of_text.len().wrapping_add(25);
+    let from = put_words(bytes, start, [TEXT, size as u64, 0]);
+    copy(bytes, from, start.wrapping_add(size), bytes_of_text);
+    text.map(|_| ()).map_err(|_| NotUnderstood)
 }
 
 // A new image of zeros.
-fn image(line: &[u8], mem: &mut Memory) -> bool {
-    let n = number(line, 2, b'w');
-    fill(mem, 0, n.value as usize, 0);
-    put(mem, SIZE, n.value, b'w');
-    n.next == line.len()
+fn image(mut operands: Operands, memory: &mut Memory) -> Result<(), NotUnderstood> {
+    let size = operands.number(Form::Unsigned).unwrap_or(0);
+    fill(&mut memory.bytes, 0, size as usize, 0);
+    memory.set_size(size);
+    operands.end()
 }
 
-// How many values a list has that ends at `at`, or one more than the most where it is not understood.
-fn counted(at: usize, is_list: bool) -> u64 {
-    if is_list {
-        return (wrapping_sub_usize(at, FIRST) / 8) as u64;
-    }
-    MORE
-}
-
-// A new list of values for the rules. One that is not understood has no values.
-fn values(line: &[u8], mem: &mut Memory) -> bool {
-    fill(mem, 0, AROUND, 0x5a);
-    let l = list(line, 2, b'w', FIRST, mem);
-    let n = counted(l.at, l.next == line.len());
-    put(mem, COUNT, n % MORE, b'w');
-    n < MORE
-}
-
-// Where the numbers of a list go, and where they begin in the command.
-fn place(line: &[u8], letter: u8) -> Found {
-    match letter {
-        b'a' => Found {
-            value: ADDRESS as u64,
-            next: 2,
-        },
-        _ => number(line, 2, b'w'),
+// A new list of values for the rules. One that is not understood has no values, and one that is too long has as many as its length leaves by 65.
+fn values(mut operands: Operands, memory: &mut Memory) -> Result<(), NotUnderstood> {
+    fill(&mut memory.bytes, 0, AROUND, 0x5a);
+    let end = list(
+        &mut operands,
+        Form::Unsigned,
+        Unit::Word,
+        &mut memory.bytes,
+        FIRST,
+    );
+    let count = operands.end().map(|()| end.wrapping_sub(FIRST) / 8);
+    memory.set_count(count.unwrap_or(0) % (MOST + 1));
+    if count? <= MOST {
+        Ok(())
+    } else {
+        Err(NotUnderstood)
     }
 }
 
-// Bytes or words from a place on.
-fn listed(line: &[u8], letter: u8, mem: &mut Memory) -> bool {
-    let p = place(line, letter);
-    let l = list(line, p.next, letter, p.value as usize, mem);
-    l.next == line.len()
+// Numbers from a place on.
+fn listed(
+    mut operands: Operands,
+    unit: Unit,
+    bytes: &mut [u8],
+    at: usize,
+) -> Result<(), NotUnderstood> {
+    list(&mut operands, Form::Unsigned, unit, bytes, at);
+    operands.end()
 }
 
-// Answers whether the command is understood.
-pub fn build(line: &[u8], mem: &mut Memory) -> bool {
-    let letter = byte(line, 1);
+// The same from the place that the command names.
+fn placed(mut operands: Operands, unit: Unit, bytes: &mut [u8]) -> Result<(), NotUnderstood> {
+    let at = operands.number(Form::Unsigned).unwrap_or(0) as usize;
+    listed(operands, unit, bytes, at)
+}
+
+pub fn build(letter: u8, operands: Operands, memory: &mut Memory) -> Result<(), NotUnderstood> {
     match letter {
-        b'i' => image(line, mem),
-        b'v' => values(line, mem),
-        b'C' => conversion(line, mem),
-        b'T' => text_block(line, mem),
-        _ => listed(line, letter, mem),
+        b'i' => image(operands, memory),
+        b'v' => values(operands, memory),
+        b'C' => conversion(operands, &mut memory.bytes),
+        b'T' => text_block(operands, &mut memory.bytes),
+        b'a' => listed(operands, Unit::Word, &mut memory.bytes, ADDRESS),
+        b'b' => placed(operands, Unit::Byte, &mut memory.bytes),
+        _ => placed(operands, Unit::Word, &mut memory.bytes),
     }
 }

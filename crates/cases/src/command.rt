@@ -1,31 +1,85 @@
 // The commands of the table by their letters.
-use crate::build::Memory;
+use crate::mark::Mark;
+use crate::memory::Memory;
 use crate::{block, build, say, value, write};
-use lines::parts::byte;
+use common::refusal::Refusal;
+use lines::read::{NotUnderstood, Operands};
+use lines::refusal::Told;
+use std::alloc::AllocError;
+use std::io;
 
-// What the commands of each byte from 48 on do: b build, w write a block, c convert a value, r ask a rule, a ask all else.
-//                          0123456789:;<=>?@ABCDEFGHIJKLMNOPQRSTUVWXYZ[\]^_`abcdefghijklmnopqrstuvwxyz
-const GROUPS: [u8; 75] =
-    *b"rrr.rrrrr..........b..w......w.w....b..w.........bbacacaabaaa.acacacccbbaa.";
-
-// 0 for a byte that stands before those or behind them.
-fn group(letter: u8) -> u8 {
-    byte(&GROUPS, std::num::wrapping_sub_usize(letter as usize, 48))
+// Why a command is not answered.
+#[derive(Debug, Drop)]
+pub enum Failure {
+    NotUnderstood,
+    Refused(Refusal),
+    // Output or memory failed.
+    System(io::Error),
 }
 
-// Obeys a command, which stands behind its mark. A remark begins with a space.
-pub fn obey(line: &[u8], mem: &mut Memory) {
-    match group(byte(line, 1)) {
-        0 => {}
-        b'a' => block::ask(line, mem),
-        b'b' => {
-            if !build::build(line, mem) {
-                say::bad(line);
-            }
+impl From<NotUnderstood> for Failure {
+    fn from(_failure: NotUnderstood) -> Self {
+        Failure::NotUnderstood
+    }
+}
+
+impl From<Refusal> for Failure {
+    fn from(refusal: Refusal) -> Self {
+        Failure::Refused(refusal)
+    }
+}
+
+impl From<io::Error> for Failure {
+    fn from(error: io::Error) -> Self {
+        Failure::System(error)
+    }
+}
+
+impl From<AllocError> for Failure {
+    fn from(error: AllocError) -> Self {
+        Failure::System(io::Error::from(error))
+    }
+}
+
+// Commands go by their letters to the end: the table is written in them, and an enum would name each twice.
+// What begins with a byte below the digits or behind the letters is no command: a remark begins with a space.
+fn obeyed(
+    rt: &(impl Print + AllocGlobal),
+    mark: Mark,
+    letter: u8,
+    operands: Operands,
+    memory: &mut Memory,
+) -> Result<(), Failure> {
+    match letter {
+        b'a' | b'b' | b'i' | b'v' | b'w' | b'C' | b'T' => build::build(letter, operands, memory)?,
+        b'F' | b'M' | b'O' | b'W' => write::write(rt, mark, letter, operands, memory)?,
+        b'd' | b'f' | b'o' | b'q' | b's' | b't' | b'u' => {
+            value::convert(rt, letter, operands, memory)?
         }
-        b'c' => value::convert(line, mem),
-        b'r' => value::by_rule(line, mem),
-        b'w' => write::write(line, mem),
-        _ => say::bad(line),
+        b'0' | b'1' | b'2' | b'4'..=b'8' => value::by_rule(rt, letter, operands, memory)?,
+        b'c' | b'e' | b'g' | b'h' | b'j'..=b'l' | b'n' | b'p' | b'r' | b'x' | b'y' => {
+            block::ask(rt, letter, operands, memory)?
+        }
+        b'0'..=b'z' => return Err(Failure::NotUnderstood),
+        _ => {}
+    }
+    Ok(())
+}
+
+// Obeys a command, which stands behind its mark.
+pub fn obey(
+    rt: &(impl Print + AllocGlobal),
+    mark: Mark,
+    command: &[u8],
+    memory: &mut Memory,
+) -> io::Result<()> {
+    let [letter, rest @ ..] = command else {
+        return Ok(());
+    };
+    match obeyed(rt, mark, *letter, Operands { rest }, memory) {
+        Ok(()) => Ok(()),
+        Err(Failure::NotUnderstood) => say::not_understood(rt, command),
+        Err(Failure::Refused(refusal)) => print!(rt; "refused {}", Told(refusal)),
+        Err(Failure::System(error)) => Err(error),
     }
 }

@@ -5,15 +5,15 @@ use mathlib.Core.List.{List, [], ◌∷◌}
 use Prim.Native.Nat.{ℕ, suc, ◌+◌, ◌-◌, ◌≤◌, ◌<◌}
 use native.Mathlib.Omega.{arith}
 use native.Mathlib.Numerals.{add-one}
-use borrow.Author.Tests.{le-leb, lt-leb, leb-true, ne_eqb}
+use borrow.Author.Tests.{le-leb, leb-true, ne_eqb}
 use lib.Dec.{leb, eqb}
 use lib.ListN.{length, get_or, take, drop, length-take}
 use lib.Seq.{drop-cons, take-take}
+use Rattle.std.specs.Prelude.{Option, Some, None}
 use Rattle.words.specs.Words.{word64, part}
 use Rattle.common.specs.Header.{inside, text_id, has_id}
 use Rattle.common.specs.Text.{until_zero, is_whole_text, run_at, run_of, text_bytes, cut_off, text_of, shown, TextIn}
-use Rattle.common.specs.declared.text.Text.{Text}
-use Rattle.common.specs.declared.text.Text.TheVariants.{Part, NoText}
+use Rattle.common.specs.declared.text.Span.{Span}
 
 -- ---- the bytes from i up to `to` begin with the byte at i
 first_byte : (img : List ℕ) (i to : ℕ) → i < to → to ≤ length img
@@ -41,29 +41,21 @@ bytes_none img i to h = let e : to - i ≡ 0 = omega arith in rw e
 
 -- ---- the answer after each test
 module _ (id : ℕ) (img : List ℕ) (a : ℕ) where
-  pub run_other : has_id id img a ≡ false → run_at id img a ≡ NoText
+  pub run_other : has_id id img a ≡ false → run_at id img a ≡ None
   unfolding run_at is_whole_text
   run_other t = rw t
 
-  pub run_under : has_id id img a ≡ true → word64 img (a + 8) < 24 → run_at id img a ≡ NoText
-  unfolding run_at is_whole_text
-  run_under t h = simp (t, lt-leb _ _ h)
-
-  pub run_cut : has_id id img a ≡ true → 24 ≤ word64 img (a + 8) → length img < a + word64 img (a + 8) → run_at id img a ≡ NoText
-  unfolding run_at is_whole_text
-  run_cut t h k = simp (t, le-leb _ _ h, lt-leb _ _ k)
-
   pub run_whole : has_id id img a ≡ true → 24 ≤ word64 img (a + 8) → a + word64 img (a + 8) ≤ length img
-      → run_at id img a ≡ Part (a + 24) (a + word64 img (a + 8))
+      → run_at id img a ≡ Some (record { from = a + 24; to = a + word64 img (a + 8) })
   unfolding run_at is_whole_text
   run_whole t h k = simp (t, le-leb _ _ h, le-leb _ _ k)
 
 module _ (img : List ℕ) (a : ℕ) where
-  pub run_nil : a ≡ 0 → run_of img a ≡ NoText
+  pub run_nil : a ≡ 0 → run_of img a ≡ None
   unfolding run_of
   run_nil z = rw z
 
-  pub run_outside : (a ≡ 0 → ⊥) → inside img a ≡ false → run_of img a ≡ NoText
+  pub run_outside : (a ≡ 0 → ⊥) → inside img a ≡ false → run_of img a ≡ None
   unfolding run_of
   run_outside z h = simp (ne_eqb a 0 z, h)
 
@@ -98,7 +90,7 @@ bytes_short img from to =
     omega (arith, until_zero_short (part img from to), length-take (to - from) (drop from img))
 
 -- the part that is cut off where the text ends shows the text
-pub text_shown : (img : List ℕ) (from to : ℕ) → shown img (Part from (from + length (text_bytes img from to))) ≡ text_bytes img from to
+pub text_shown : (img : List ℕ) (from to : ℕ) → shown img (Some (record { from = from; to = from + length (text_bytes img from to) })) ≡ text_bytes img from to
 unfolding text_bytes
 text_shown img from to =
     let bs = part img from to in
@@ -107,11 +99,11 @@ text_shown img from to =
     ap (λ (k : ℕ). take k (drop from img)) n ∙ sym (take-take (length (until_zero bs)) (to - from) (drop from img) few) ∙ until_zero_front bs
 
 -- what a link's text shows is the text of the run that the link leads to; where there is no run there is no text
-pub text_of_shown : (img : List ℕ) (link from to : ℕ) → run_of img link ≡ Part from to → shown img (text_of img link) ≡ text_bytes img from to
+pub text_of_shown : (img : List ℕ) (link : ℕ) (run : Span) → run_of img link ≡ Some run → shown img (text_of img link) ≡ text_bytes img run.from run.to
 unfolding text_of
-text_of_shown img link from to e = ap (λ (t : Text). shown img (cut_off img t)) e ∙ text_shown img from to
+text_of_shown img link run e = ap (λ (t : Option Span). shown img (cut_off img t)) e ∙ text_shown img run.from run.to
 
-pub text_of_none : (img : List ℕ) (link : ℕ) → run_of img link ≡ NoText → text_of img link ≡ NoText
+pub text_of_none : (img : List ℕ) (link : ℕ) → run_of img link ≡ None → text_of img link ≡ None
 unfolding text_of
 text_of_none img link e = ap (cut_off img) e
 
@@ -120,7 +112,7 @@ unfolding run_at is_whole_text
 run_at_within id img a = go (has_id id img a) (leb 24 (word64 img (a + 8))) (leb (a + word64 img (a + 8)) (length img)) refl refl
   where
     go : (t u v : Bool) → leb 24 (word64 img (a + 8)) ≡ u → leb (a + word64 img (a + 8)) (length img) ≡ v
-        → TextIn img (cond (t && u && v) (Part (a + 24) (a + word64 img (a + 8))) NoText)
+        → TextIn img (cond (t && u && v) (Some (record { from = a + 24; to = a + word64 img (a + 8) })) None)
     go true true true p q = let h = leb-true 24 (word64 img (a + 8)) p in (omega arith, leb-true _ _ q)
     go true true false p q = tt
     go true false v p q = tt
@@ -130,14 +122,14 @@ pub run_within : (img : List ℕ) (link : ℕ) → TextIn img (run_of img link)
 unfolding run_of
 run_within img link = go (not (eqb link 0) && inside img link) (run_at_within text_id img link)
   where
-    go : (b : Bool) → TextIn img (run_at text_id img link) → TextIn img (cond b (run_at text_id img link) NoText)
+    go : (b : Bool) → TextIn img (run_at text_id img link) → TextIn img (cond b (run_at text_id img link) None)
     go true h = h
     go false h = tt
 
 -- a run that is cut off lies in the image, too
-pub cut_within : (img : List ℕ) (t : Text) → TextIn img t → TextIn img (cut_off img t)
-cut_within img (Part from to) h = (omega arith, omega (arith, h.0, h.1, bytes_short img from to))
-cut_within img NoText h = tt
+pub cut_within : (img : List ℕ) (t : Option Span) → TextIn img t → TextIn img (cut_off img t)
+cut_within img (Some run) h = (omega arith, omega (arith, h.0, h.1, bytes_short img run.from run.to))
+cut_within img None h = tt
 
 pub text_within : (img : List ℕ) (link : ℕ) → TextIn img (text_of img link)
 unfolding text_of

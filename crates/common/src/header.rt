@@ -12,6 +12,8 @@ pub struct Header {
     pub links: u64,
 }
 
+// An image and a place in it stay two parameters, and that a header lies there a clause: the walks keep places alone, of one image, so that a struct of
+// both would be made, and its fact shown again, at each call.
 impl Header {
     pub const SIZE: usize = 24;
     // "##CC" and "##TX" as little-endian numbers.
@@ -20,20 +22,15 @@ impl Header {
     pub const TEXT: u32 = 0x5854_2323;
 
     // Whether a header at `address` lies in the image. The sum address + 24 is not made: it could wrap.
+    #[tactic(auto, unfolding(crate::specs::Header::inside))]
     pub fn is_inside(image: &[u8], address: u64) -> bool
         ensures { result ≡ inside image.now address }
     {
-        if image.len() < Header::SIZE {
-            return false;
-        }
-        if address <= (image.len() - Header::SIZE) as u64 {
-            true
-        } else {
-            false
-        }
+        image.len() >= Header::SIZE && address <= (image.len() - Header::SIZE) as u64
     }
 
     // Whether the header at `at` is a conversion's.
+    #[tactic(auto, unfolding(crate::specs::Header::is_conversion))]
     pub fn is_conversion(image: &[u8], at: usize) -> bool
         requires { at + 24 ≤ length_of image.now }
         ensures { result ≡ is_conversion image.now at }
@@ -41,6 +38,7 @@ impl Header {
         words::u32_at(image, at) == Header::CONVERSION
     }
 
+    #[tactic(auto, unfolding(crate::specs::Header::header_at))]
     pub fn read(image: &[u8], at: usize) -> Header
         requires { at + 24 ≤ length_of image.now }
         ensures { result ≡ header_at image.now at }
@@ -52,15 +50,15 @@ impl Header {
             links: words::u64_at(image, at + 16),
         }
     }
-}
 
-// A header, from byte 0 of `out` on.
-pub fn put_header(out: &mut [u8], id: u32, reserved: u32, length: u64, links: u64)
-    requires { 24 ≤ length_of out.old }
-    ensures { out.new ≡ put out.old 0 (header_bytes id reserved length links) }
-{
-    words::put_u32(out, 0, id);
-    words::put_u32(out, 4, reserved);
-    words::put_u64(out, 8, length);
-    words::put_u64(out, 16, links);
+    // Its bytes, from byte 0 of `out` on.
+    pub fn put(self, out: &mut [u8])
+        requires { 24 ≤ length_of out.old }
+        ensures { out.new ≡ put out.old 0 (header_bytes self.id self.reserved self.length self.links) }
+    {
+        words::put_u32(out, 0, self.id);
+        words::put_u32(out, 4, self.reserved);
+        words::put_u64(out, 8, self.length);
+        words::put_u64(out, 16, self.links);
+    }
 }

@@ -1,4 +1,4 @@
-// What every block has in common: type numbers, refusals, the header, texts, and what a writer answers. See each module.
+// What every block has in common: type numbers, refusals, the header and texts. See each module.
 
 #![tactic(auto)]
 
@@ -6,4 +6,3 @@ pub mod header;
 pub mod refusal;
 pub mod text;
 pub mod types;
-pub mod written;

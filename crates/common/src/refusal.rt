@@ -1,11 +1,14 @@
 // Why a call is refused. Stands for the parts of error.rs that a conversion can meet; the numbers are document 01's, and from 11 on those of the
 // requests after it.
-ghost use Rattle.std.specs.Prelude.{◌≡◌};
-ghost use Rattle.common.specs.Refusal.{number_of, address_of, index_of};
+ghost use Rattle.std.specs.Prelude.{◌≡◌, Some};
+ghost use Rattle.common.specs.Refusal.{number_of, name_of, address_of, index_of};
+
+use std::error::Error;
+use std::fmt;
 
 // 1 to 6, 15, 18 and 22 carry the address of the block or the link, 12 to 14 the index of a key. They stand first, so that the machine tells each kind
 // from the others by one comparison.
-#[derive(Clone, Copy)]
+#[derive(Clone, Copy, Debug, PartialEq, Eq)]
 pub enum Refusal {
     Outside(u64),
     NotConversion(u64),
@@ -26,13 +29,6 @@ pub enum Refusal {
     Edition,
     Padding,
     ZeroByte,
-}
-
-// A number of 64 bits, where there is one.
-#[derive(Clone, Copy)]
-pub enum Word {
-    Bits(u64),
-    NoWord,
 }
 
 impl Refusal {
@@ -64,41 +60,61 @@ impl Refusal {
     }
 
     // The address that it carries, if it carries one.
-    pub fn address(self) -> Word
+    pub fn address(self) -> Option<u64>
         ensures { result ≡ address_of self }
     {
         match self {
-            Refusal::Outside(a) => Word::Bits(a),
-            Refusal::NotConversion(a) => Word::Bits(a),
-            Refusal::Limit(a) => Word::Bits(a),
-            Refusal::Short(a) => Word::Bits(a),
-            Refusal::Deep(a) => Word::Bits(a),
-            Refusal::Loop(a) => Word::Bits(a),
-            Refusal::FewLinks(a) => Word::Bits(a),
-            Refusal::NotTextBlock(a) => Word::Bits(a),
-            Refusal::WrongType(a) => Word::Bits(a),
-            Refusal::NotText(_) => Word::NoWord,
-            Refusal::Repeated(_) => Word::NoWord,
-            Refusal::Key(_) => Word::NoWord,
-            Refusal::Formula => Word::NoWord,
-            Refusal::Room => Word::NoWord,
-            Refusal::Count => Word::NoWord,
-            Refusal::Width => Word::NoWord,
-            Refusal::Edition => Word::NoWord,
-            Refusal::Padding => Word::NoWord,
-            Refusal::ZeroByte => Word::NoWord,
+            Refusal::Outside(address)
+            | Refusal::NotConversion(address)
+            | Refusal::Limit(address)
+            | Refusal::Short(address)
+            | Refusal::Deep(address)
+            | Refusal::Loop(address)
+            | Refusal::FewLinks(address)
+            | Refusal::NotTextBlock(address)
+            | Refusal::WrongType(address) => Some(address),
+            _ => None,
         }
     }
 
-    // The index of the key that it carries; 0 where it carries none.
-    pub fn index(self) -> u32
+    // The index of the key that it carries, if it carries one.
+    pub fn index(self) -> Option<u32>
         ensures { result ≡ index_of self }
     {
         match self {
-            Refusal::NotText(i) => i,
-            Refusal::Repeated(i) => i,
-            Refusal::Key(i) => i,
-            _ => 0,
+            Refusal::NotText(index) | Refusal::Repeated(index) | Refusal::Key(index) => Some(index),
+            _ => None,
         }
     }
 }
+
+// Its name.
+impl fmt::Display for Refusal {
+    ghost output = { λ r. Some (name_of r) };
+
+    fn fmt<W: fmt::Write>(&self, f: &mut fmt::Formatter<W>) -> fmt::Result {
+        f.write_str(match self {
+            Refusal::Outside(_) => "Outside",
+            Refusal::NotConversion(_) => "NotConversion",
+            Refusal::Limit(_) => "Limit",
+            Refusal::Short(_) => "Short",
+            Refusal::Deep(_) => "Deep",
+            Refusal::Loop(_) => "Loop",
+            Refusal::FewLinks(_) => "FewLinks",
+            Refusal::NotTextBlock(_) => "NotTextBlock",
+            Refusal::WrongType(_) => "WrongType",
+            Refusal::NotText(_) => "NotText",
+            Refusal::Repeated(_) => "Repeated",
+            Refusal::Key(_) => "Key",
+            Refusal::Formula => "Formula",
+            Refusal::Room => "Room",
+            Refusal::Count => "Count",
+            Refusal::Width => "Width",
+            Refusal::Edition => "Edition",
+            Refusal::Padding => "Padding",
+            Refusal::ZeroByte => "ZeroByte",
+        })
+    }
+}
+
+impl Error for Refusal {}

@@ -2,7 +2,7 @@
 ghost use Rattle.std.specs.Prelude.{◌≡◌};
 ghost use Rattle.common.specs.Types.{type_of, number_of_type};
 
-#[derive(Clone, Copy)]
+#[derive(Clone, Copy, Debug, PartialEq, Eq)]
 pub enum ConversionType {
     Identity,
     Linear,
@@ -19,10 +19,11 @@ pub enum ConversionType {
     Unknown(u8),
 }
 
-impl ConversionType {
-    pub fn from_u8(n: u8) -> ConversionType
-        ensures { result ≡ type_of n }
-    {
+impl From<u8> for ConversionType {
+    ghost from_gives = { λ n kind. kind ≡ type_of n };
+
+    #[tactic(auto, unfolding(crate::specs::Types::type_of))]
+    fn from(n: u8) -> ConversionType {
         match n {
             0 => ConversionType::Identity,
             1 => ConversionType::Linear,
@@ -39,11 +40,13 @@ impl ConversionType {
             _ => ConversionType::Unknown(n),
         }
     }
+}
 
-    pub fn to_u8(self) -> u8
-        ensures { result ≡ number_of_type self }
-    {
-        match self {
+impl From<ConversionType> for u8 {
+    ghost from_gives = { λ kind n. n ≡ number_of_type kind };
+
+    fn from(kind: ConversionType) -> u8 {
+        match kind {
             ConversionType::Identity => 0,
             ConversionType::Linear => 1,
             ConversionType::Rational => 2,

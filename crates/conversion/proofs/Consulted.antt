@@ -1,5 +1,6 @@
 -- An application says that a malformed table was consulted exactly where it began a block with a number whose table is malformed (request [5]).
 -- Assumes nothing.
+use Rattle.std.specs.Prelude.{Err, None, Ok, Option, Result, Some}
 use mathlib.Core.Path.{◌≡◌, refl, sym, ap, subst, ◌∙◌}
 use mathlib.Core.Bool.{Bool, true, false, ◌&&◌, ◌||◌}
 use mathlib.Core.List.{List, [], ◌∷◌, ◌++◌}
@@ -8,6 +9,7 @@ use borrow.Author.Tests.{eqb-true}
 use lib.Bits.{bit_and}
 use lib.Dec.{eqb}
 use Rattle.words.proofs.Clash.{clash}
+use Rattle.std.proofs.Math.Bool.{or_assoc, and-false}
 use Rattle.common.specs.Types.{type_of, number_of_type}
 use Rattle.common.specs.declared.refusal.Refusal.{Refusal}
 use Rattle.common.specs.declared.types.ConversionType.{ConversionType}
@@ -17,10 +19,6 @@ use Rattle.blocks.specs.Block.{block_at, opened}
 use Rattle.blocks.specs.View.{view_of, seen_of, seen}
 use Rattle.blocks.specs.declared.Block.{Block}
 use Rattle.blocks.specs.declared.view.View.{View}
-use Rattle.blocks.specs.declared.view.Seen.{Seen}
-use Rattle.blocks.specs.declared.view.Seen.TheVariants.{Open, Cut}
-use Rattle.blocks.specs.declared.Parsed.{Parsed}
-use Rattle.blocks.specs.declared.Parsed.TheVariants.{Whole}
 use Rattle.leads.specs.Lead.{lead_at}
 use Rattle.leads.specs.declared.lead.Lead.{Lead}
 use Rattle.leads.specs.declared.lead.Lead.TheVariants as lead
@@ -29,8 +27,6 @@ use Rattle.rules.specs.Numbers.{taken}
 use Rattle.rules.specs.Search.{malformed}
 use Rattle.rules.specs.declared.number.Value.{Value}
 use Rattle.rules.specs.declared.number.Value.TheVariants as value
-use Rattle.rules.specs.declared.number.Taken.{Taken}
-use Rattle.rules.specs.declared.number.Taken.TheVariants as took
 use Rattle.rules.proofs.Malformed.{malformed_said}
 use Rattle.rules.proofs.Steps.{values_length}
 use Rattle.steps.specs.Mode.{bits_of}
@@ -46,8 +42,6 @@ use Rattle.steps.specs.declared.step.Step.TheVariants.{ByKey, ByRange, ByBits, D
 use Rattle.pieces.specs.Answer.{Answer, number, text, unchanged, unknown, formula, broken}
 use Rattle.tree.specs.Tree.{Sound}
 use Rattle.tree.specs.Walk.{checked}
-use Rattle.tree.specs.declared.Checked.{Checked}
-use Rattle.tree.specs.declared.Checked.TheVariants.{Accepted, Unsound}
 use Rattle.tree.proofs.Acceptance.{acceptance}
 use Rattle.engine.specs.Apply.{Ap, passed_on, mask_at, group_count, part_of, Groups, going, halted, grown, more, groups, gathered, bit_groups, ruled, applied}
 use Rattle.conversion.specs.Entry.{Call, settled, by_check, applying}
@@ -57,16 +51,9 @@ use Rattle.conversion.proofs.OneBlock.{met}
 use Rattle.conversion.proofs.Steps.{Chosen, chosen_key_lem, chosen_range_lem}
 use Rattle.conversion.proofs.Demand.{after_check}
 use Rattle.conversion.proofs.Reach.{below}
+use Rattle.rules.specs.declared.number.Taken.{Taken}
 
 -- ---- truths
-and_none : (b : Bool) → (b && false) ≡ false
-and_none true = refl
-and_none false = refl
-
-or_assoc : (a b c : Bool) → ((a || b) || c) ≡ (a || (b || c))
-or_assoc true b c = refl
-or_assoc false b c = refl
-
 some_append : (img xs ys : List ℕ) → some_malformed img (xs ++ ys) ≡ (some_malformed img xs || some_malformed img ys)
 unfolding some_malformed
 some_append img [] ys = refl
@@ -112,9 +99,9 @@ module _ (mode : Mode) (img t : List ℕ) (b : Block) where
   by_kind v true h = eight v (eqb-true _ _ h)
   by_kind v false h = by_type v (type_of b.kind) (sym (type_number b.kind)) (ap (λ (x : Bool). x && malformed b.valcount) h)
 
-  begins : (v : Value) (a : ℕ) → opened img a ≡ Whole b → Begins b v (step_of mode img t a v)
+  begins : (v : Value) (a : ℕ) → opened img a ≡ Ok b → Begins b v (step_of mode img t a v)
   unfolding step_of seen
-  begins v a e = subst (λ (p : Parsed). Begins b v (unless_cut mode img t v (seen_of p))) (sym e) (by_kind v (eqb b.kind 8) refl)
+  begins v a e = subst (λ (p : Result Block Refusal). Begins b v (unless_cut mode img t v (seen_of p))) (sym e) (by_kind v (eqb b.kind 8) refl)
 
 -- ---- the groups so far
 abbrev flag : Groups → Bool
@@ -147,25 +134,25 @@ module _ (nested : ℕ → Value → Ap) (img : List ℕ) (b : Block)
   passed : (v : Value) (c : Choice) → Chosen img b c → (passed_on nested img v c).malformed ≡ consulted img v (passed_on nested img v c).begun
   unfolding some_malformed
   passed v (choice.Nested a) h = known a v h
-  passed v (choice.Done p) h = sym (and_none (has_number (taken v)))
+  passed v (choice.Done p) h = sym (and-false (has_number (taken v)))
 
   -- the table that was consulted is the block's
-  ranged : (v : Value) (x : Taken) → taken v ≡ x → b.kind ≡ 8
+  ranged : (v : Value) (x : Option Taken) → taken v ≡ x → b.kind ≡ 8
       → (malformed_range img (view_of b) x || (passed_on nested img v (chosen_range img (view_of b) x)).malformed)
       ≡ (has_number x && (has_malformed b || some_malformed img (passed_on nested img v (chosen_range img (view_of b) x)).begun))
-  ranged v (took.Number y whole) e h =
+  ranged v (Some y) e h =
       let vs = values img b.firstval b.valcount in
-      let c = chosen_range img (view_of b) (took.Number y whole) in
-      let own : malformed_range img (view_of b) (took.Number y whole) ≡ has_malformed b =
-      malformed_said whole y vs ∙ ap malformed (values_length img b.firstval b.valcount) ∙ ap (λ (n : ℕ). eqb n 8 && malformed b.valcount) (sym h) in
+      let c = chosen_range img (view_of b) (Some y) in
+      let own : malformed_range img (view_of b) (Some y) ≡ has_malformed b =
+      malformed_said y.whole y.number vs ∙ ap malformed (values_length img b.firstval b.valcount) ∙ ap (λ (n : ℕ). eqb n 8 && malformed b.valcount) (sym h) in
       let rest : (passed_on nested img v c).malformed ≡ some_malformed img (passed_on nested img v c).begun =
-      passed v c (chosen_range_lem img b (took.Number y whole)) ∙ ap (λ (n : Taken). has_number n && some_malformed img (passed_on nested img v c).begun) e in
+      passed v c (chosen_range_lem img b (Some y)) ∙ ap (λ (n : Option Taken). has_number n && some_malformed img (passed_on nested img v c).begun) e in
       ap (λ (o : Bool). o || (passed_on nested img v c).malformed) own ∙ ap (λ (o : Bool). has_malformed b || o) rest
-  ranged v took.NoNumber e h = refl
+  ranged v None e h = refl
 
   part_same : (i m : ℕ) (l : Lead) → lead_at img (view_of b) i ≡ l → (part_of nested img l m).malformed ≡ some_malformed img (part_of nested img l m).begun
   unfolding some_malformed
-  part_same i m (lead.Words from to) e = refl
+  part_same i m (lead.Words run) e = refl
   part_same i m (lead.Nested a) e = known a (value.Unsigned m) (reference_of_lem img b i a e)
   part_same i m lead.Nil e = refl
   part_same i m lead.Elsewhere e = refl
@@ -187,7 +174,7 @@ module _ (nested : ℕ → Value → Ap) (img : List ℕ) (b : Block)
   one_block v (ByKey c) h = rw (h.0, h.1) (passed v (chosen_key img (view_of b) (taken v)) (chosen_key_lem img b (taken v)))
   one_block v (ByRange c) h = rw h.0 (ranged v (taken v) refl h.1)
   one_block v (ByBits c bits) h = rw (h.0, h.1.0, h.1.1) (bits_same bits)
-  one_block v (Done p) h = rw h (sym (and_none (has_number (taken v))))
+  one_block v (Done p) h = rw h (sym (and-false (has_number (taken v))))
 
 -- ---- every block of a sound tree
 pub consulted_iff : (d : ℕ) (mode : Mode) (img t : List ℕ) (a : ℕ) (v : Value) → Sound d img a
@@ -200,8 +187,8 @@ consulted_iff (suc d) mode img t a v s =
     (begins mode img t b v a s.1)
 
 -- ---- a value that is no number begins the root alone, whatever stands there
-module _ (nested : ℕ → Value → Ap) (mode : Mode) (img t : List ℕ) (v : Value) (none : taken v ≡ took.NoNumber) where
-  no_bits : (e : Edition) (b : View) (w : Value) → taken w ≡ took.NoNumber → (ruled nested img v (grouped_in e b (bits_of mode w))).begun ≡ []
+module _ (nested : ℕ → Value → Ap) (mode : Mode) (img t : List ℕ) (v : Value) (none : taken v ≡ None) where
+  no_bits : (e : Edition) (b : View) (w : Value) → taken w ≡ None → (ruled nested img v (grouped_in e b (bits_of mode w))).begun ≡ []
   no_bits Mdf410 b w h = refl
   no_bits Mdf420 b (value.Unsigned n) h = clash cc
   no_bits Mdf420 b (value.Signed n) h = clash cc
@@ -224,11 +211,11 @@ module _ (nested : ℕ → Value → Ap) (mode : Mode) (img t : List ℕ) (v : V
   alone_by b kind.BitGroups = no_bits mode.edition b v none
   alone_by b (kind.Unknown n) = refl
 
-  alone_seen : (s : Seen) → (ruled nested img v (unless_cut mode img t v s)).begun ≡ []
-  alone_seen (Open b) = alone_by b (type_of b.kind)
-  alone_seen Cut = refl
+  alone_seen : (s : Option View) → (ruled nested img v (unless_cut mode img t v s)).begun ≡ []
+  alone_seen (Some b) = alone_by b (type_of b.kind)
+  alone_seen None = refl
 
-pub alone : (d : ℕ) (mode : Mode) (img t : List ℕ) (a : ℕ) (v : Value) → taken v ≡ took.NoNumber → (applied d mode img t a v).begun ≡ a ∷ []
+pub alone : (d : ℕ) (mode : Mode) (img t : List ℕ) (a : ℕ) (v : Value) → taken v ≡ None → (applied d mode img t a v).begun ≡ a ∷ []
 unfolding applied step_of
 alone zero mode img t a v h = refl
 alone (suc d) mode img t a v h = ap (λ (l : List ℕ). a ∷ l) (alone_seen (applied d mode img t) mode img t v h (seen img a))
@@ -236,13 +223,13 @@ alone (suc d) mode img t a v h = ap (λ (l : List ℕ). a ∷ l) (alone_seen (ap
 -- ---- what a call says
 module _ (mode : Mode) (img : List ℕ) (a limit : ℕ) (v : Value) (t out : List ℕ) where
   -- where the check accepts: no more and no less than the blocks begun tell
-  pub flag_accepted : (n : ℕ) → checked img a limit ≡ Accepted n
+  pub flag_accepted : (n : ℕ) → checked img a limit ≡ Ok n
       → (applying mode img a limit v t out).result.malformed ≡ consulted img v (applied 21 mode img t a v).begun
   unfolding settled
   flag_accepted n e =
       ap (λ (c : Call). c.result.malformed) (after_check mode img a limit n v t out e) ∙ consulted_iff 21 mode img t a v (acceptance img a limit n e).sound
 
   -- a refusal of the check consulted no table
-  pub flag_refused : (r : Refusal) → checked img a limit ≡ Unsound r → (applying mode img a limit v t out).result.malformed ≡ false
+  pub flag_refused : (r : Refusal) → checked img a limit ≡ Err r → (applying mode img a limit v t out).result.malformed ≡ false
   unfolding applying
-  flag_refused r e = ap (λ (c : Checked). (by_check c (λ n. settled n a (applied 21 mode img t a v) out) out).result.malformed) e
+  flag_refused r e = ap (λ (c : Result ℕ Refusal). (by_check c (λ n. settled n a (applied 21 mode img t a v) out) out).result.malformed) e

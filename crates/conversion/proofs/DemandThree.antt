@@ -1,5 +1,6 @@
 -- Demand 3 of one call, over what its result says: `demand_3`. `apply` and `apply_in` are proved to answer `applying`, so this holds of every call
 -- of them. Assumes nothing.
+use Rattle.std.specs.Prelude.{Err, Ok, Result}
 use mathlib.Core.Path.{◌≡◌, refl, sym, ap, ◌∙◌}
 use mathlib.Core.Logic.{◌⊎◌, ⊎_elim}
 use mathlib.Core.List.{List}
@@ -14,8 +15,6 @@ use Rattle.steps.specs.declared.mode.Mode.{Mode}
 use Rattle.steps.specs.declared.mode.Edition.TheVariants.{Mdf410}
 use Rattle.tree.specs.Tree.{size}
 use Rattle.tree.specs.Walk.{trace, checked}
-use Rattle.tree.specs.declared.Checked.{Checked}
-use Rattle.tree.specs.declared.Checked.TheVariants.{Accepted, Unsound}
 use Rattle.tree.proofs.Acceptance.{acceptance}
 use Rattle.tree.proofs.Checks.{Rooted, limit_comes, limit_only}
 use Rattle.engine.specs.Apply.{applied}
@@ -58,8 +57,8 @@ module _ (mode : Mode) (img : List ℕ) (a limit : ℕ) (v : Value) (t out : Lis
 
   -- ---- demand 3
   pub record DemandThree : Type 0 where
-    pub accepted : (n : ℕ) → checked img a limit ≡ Accepted n → AfterAccepted n
-    pub refused : (r : Refusal) → checked img a limit ≡ Unsound r → AfterRefused r
+    pub accepted : (n : ℕ) → checked img a limit ≡ Ok n → AfterAccepted n
+    pub refused : (r : Refusal) → checked img a limit ≡ Err r → AfterRefused r
     -- any refusal, of the check or of applying, leaves the output as it was
     pub kept : (r : Refusal) → made.result.answer ≡ Refused r → made.output ≡ out
     -- M <= 21 in edition 4.10 for every image, whatever the check answers
@@ -70,7 +69,7 @@ module _ (mode : Mode) (img : List ℕ) (a limit : ℕ) (v : Value) (t out : Lis
     pub limit_only : (x : ℕ) → made.result.answer ≡ Refused (Limit x)
         → (limit < length (trace img a).visits) × (x ≡ get_or (trace img a).visits limit 0)
 
-  after_accepted : (n : ℕ) → checked img a limit ≡ Accepted n → AfterAccepted n
+  after_accepted : (n : ℕ) → checked img a limit ≡ Ok n → AfterAccepted n
   unfolding settled
   after_accepted n e =
       let k = acceptance img a limit n e in
@@ -90,11 +89,11 @@ module _ (mode : Mode) (img : List ℕ) (a limit : ℕ) (v : Value) (t out : Lis
         raised = λ higher h. same_when_raised mode img a limit higher n v t out e h;
       }
 
-  after_refused : (r : Refusal) → checked img a limit ≡ Unsound r → AfterRefused r
+  after_refused : (r : Refusal) → checked img a limit ≡ Err r → AfterRefused r
   unfolding applying
   after_refused r e =
       let it : made ≡ call (refused_before r) out =
-      ap (λ (c : Checked). by_check c (λ n. settled n a (applied 21 mode img t a v) out) out) e in
+      ap (λ (c : Result ℕ Refusal). by_check c (λ n. settled n a (applied 21 mode img t a v) out) out) e in
       record {
         answer = ap (λ (c : Call). c.result.answer) it;
         no_count = ap (λ (c : Call). c.result.checked) it;
@@ -105,13 +104,13 @@ module _ (mode : Mode) (img : List ℕ) (a limit : ℕ) (v : Value) (t out : Lis
   only : (x : ℕ) → made.result.answer ≡ Refused (Limit x) → (limit < length (trace img a).visits) × (x ≡ get_or (trace img a).visits limit 0)
   only x p = go (checked img a limit) refl
     where
-      go : (c : Checked) → checked img a limit ≡ c → (limit < length (trace img a).visits) × (x ≡ get_or (trace img a).visits limit 0)
-      go (Accepted n) e =
+      go : (c : Result ℕ Refusal) → checked img a limit ≡ c → (limit < length (trace img a).visits) × (x ≡ get_or (trace img a).visits limit 0)
+      go (Ok n) e =
           ⊎_elim (λ seven. absurd (omega (arith, seven))) (λ eight. absurd (omega (arith, eight))) ((after_accepted n e).refusals (Limit x) p)
-      go (Unsound r) e =
+      go (Err r) e =
           let same : Refused r ≡ Refused (Limit x) = sym (after_refused r e).answer ∙ p in
           let it : r ≡ Limit x = cc in
-          limit_only img a limit x (e ∙ ap Unsound it)
+          limit_only img a limit x (e ∙ ap Err it)
 
   pub demand_3 : DemandThree
   demand_3 = record {

@@ -10,4 +10,3 @@ pub mod Shows
 pub mod Settling
 pub mod SameText
 pub mod PCases
-pub mod Refusals

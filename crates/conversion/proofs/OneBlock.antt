@@ -42,7 +42,7 @@ Fine broken = ⊥
 
 fine_plain : (img : List ℕ) (p : Plain) → Sane p → Fine (spelled img p)
 fine_plain img (plain.Number x) h = tt
-fine_plain img (plain.Words from to) h = tt
+fine_plain img (plain.Words run) h = tt
 fine_plain img plain.Unchanged h = tt
 fine_plain img plain.Unknown h = tt
 fine_plain img plain.Formula h = tt
@@ -112,7 +112,7 @@ module _ (nested : ℕ → Value → Ap) (img : List ℕ) (b : Block) (g : ℕ �
 
   part_few : (i m : ℕ) (l : Lead) → lead_at img (view_of b) i ≡ l
       → length (part_of nested img l m).begun ≤ cond (leads_in img (get_or (references img b) i 0)) (g (get_or (references img b) i 0)) 0
-  part_few i m (lead.Words from to) e = omega arith
+  part_few i m (lead.Words run) e = omega arith
   part_few i m (lead.Nested a) e =
       let n = nested_lead img b i a e in
       rw (n.1, n.2) (known a (Unsigned m) (reference_of_lem img b i a e)).0
@@ -120,7 +120,7 @@ module _ (nested : ℕ → Value → Ap) (img : List ℕ) (b : Block) (g : ℕ �
   part_few i m lead.Elsewhere e = omega arith
 
   part_fine : (i m : ℕ) (l : Lead) → lead_at img (view_of b) i ≡ l → Fine (part_of nested img l m).says
-  part_fine i m (lead.Words from to) e = tt
+  part_fine i m (lead.Words run) e = tt
   part_fine i m (lead.Nested a) e =
       fine_prefixed (label img a) (nested a (Unsigned m)).says (known a (Unsigned m) (reference_of_lem img b i a e)).1
   part_fine i m lead.Nil e = tt

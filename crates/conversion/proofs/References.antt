@@ -1,5 +1,6 @@
 -- A lead to a nested block is one of the block's references, and leads to a block of the tree; what holds of each reference, and sums over them.
 -- Assumes nothing.
+use Rattle.std.specs.Prelude.{None, Option, Some}
 use mathlib.Core.Path.{◌≡◌, refl, ap, subst, ◌∙◌}
 use mathlib.Core.Bool.{Bool, true, false, ◌&&◌, cond}
 use mathlib.Core.List.{List, [], ◌∷◌}
@@ -13,16 +14,13 @@ use Rattle.words.specs.Words.{word64, words}
 use Rattle.words.proofs.Slices.{length_words}
 use Rattle.common.specs.Header.{inside, is_conversion}
 use Rattle.common.specs.Text.{run_of}
-use Rattle.common.specs.declared.text.Text.{Text}
-use Rattle.common.specs.declared.text.Text.TheVariants.{Part, NoText}
-use Rattle.common.specs.declared.refusal.Word.{Word}
-use Rattle.common.specs.declared.refusal.Word.TheVariants.{Bits, NoWord}
 use Rattle.blocks.specs.Place.{word_in, references}
 use Rattle.blocks.specs.View.{view_of, reference_in}
 use Rattle.blocks.specs.declared.Block.{Block}
 use Rattle.leads.specs.Lead.{nested_at, lead_of, lead_at, by_text, by_link}
 use Rattle.leads.specs.declared.lead.Lead.TheVariants.{Nested, Nil, Elsewhere}
 use Rattle.tree.specs.Tree.{leads_in, sizes, Each}
+use Rattle.common.specs.declared.text.Span.{Span}
 
 -- ---- one reference
 pub word_at : (s : List ℕ) (at n i : ℕ) → i < n → get_or (words s at n) i 0 ≡ word64 s (at + 8 * i)
@@ -33,11 +31,11 @@ word_at s at (suc n) (suc i) h =
     let e : at + 8 + 8 * i ≡ at + 8 * suc i = omega arith in
     word_at s (at + 8) n i (omega arith) ∙ ap (word64 s) e
 
-word_bits : (img : List ℕ) (first count i w : ℕ) → word_in img first count i ≡ Bits w → (i < count) × (word64 img (first + 8 * i) ≡ w)
+word_bits : (img : List ℕ) (first count i w : ℕ) → word_in img first count i ≡ Some w → (i < count) × (word64 img (first + 8 * i) ≡ w)
 unfolding word_in
 word_bits img first count i w = go (ltb i count) (leb (first + 8 * i + 8) (length img)) refl
   where
-    go : (x y : Bool) → ltb i count ≡ x → cond (x && y) (Bits (word64 img (first + 8 * i))) NoWord ≡ Bits w
+    go : (x y : Bool) → ltb i count ≡ x → cond (x && y) (Some (word64 img (first + 8 * i))) None ≡ Some w
         → (i < count) × (word64 img (first + 8 * i) ≡ w)
     go true true h p = (ltb-true i count h, (cc))
     go true false h p = clash cc
@@ -47,13 +45,13 @@ nested_link : (img : List ℕ) (link a : ℕ) → lead_of img link ≡ Nested a 
 unfolding lead_of nested_at leads_in
 nested_link img link a = go (eqb link 0) (run_of img link) (inside img link) (is_conversion img link)
   where
-    go : (z : Bool) (t : Text) (x y : Bool) → cond z Nil (by_text t (cond x (cond y (Nested link) Elsewhere) Elsewhere)) ≡ Nested a
+    go : (z : Bool) (t : Option Span) (x y : Bool) → cond z Nil (by_text t (cond x (cond y (Nested link) Elsewhere) Elsewhere)) ≡ Nested a
         → (link ≡ a) × (cond z false (cond x y false) ≡ true)
     go true t x y p = clash cc
-    go false (Part from to) x y p = clash cc
-    go false NoText true true p = ((cc), refl)
-    go false NoText true false p = clash cc
-    go false NoText false y p = clash cc
+    go false (Some run) x y p = clash cc
+    go false None true true p = ((cc), refl)
+    go false None true false p = clash cc
+    go false None false y p = clash cc
 
 -- a lead to a nested block a comes of the i-th reference, which is a and leads to a block of the tree
 pub nested_lead : (img : List ℕ) (b : Block) (i a : ℕ) → lead_at img (view_of b) i ≡ Nested a
@@ -61,13 +59,13 @@ pub nested_lead : (img : List ℕ) (b : Block) (i a : ℕ) → lead_at img (view
 unfolding lead_at reference_in references
 nested_lead img b i a = go (reference_in img (view_of b) i) refl
   where
-    go : (w : Word) → word_in img b.firstref (b.links - 4) i ≡ w → by_link img w ≡ Nested a
+    go : (w : Option ℕ) → word_in img b.firstref (b.links - 4) i ≡ w → by_link img w ≡ Nested a
         → (i < b.links - 4) × (get_or (words img b.firstref (b.links - 4)) i 0 ≡ a) × (leads_in img a ≡ true)
-    go (Bits link) e p =
+    go (Some link) e p =
         let n = nested_link img link a p in
         let w = word_bits img b.firstref (b.links - 4) i link e in
         (w.0, word_at img b.firstref (b.links - 4) i w.0 ∙ w.1 ∙ n.0, subst (λ (r : ℕ). leads_in img r ≡ true) n.0 n.1)
-    go NoWord e p = clash cc
+    go None e p = clash cc
 
 pub reference_count : (img : List ℕ) (b : Block) → length (references img b) ≡ b.links - 4
 unfolding references

@@ -3,24 +3,21 @@
 use mathlib.Core.Path.{◌≡◌, refl, sym, ap, subst, ◌∙◌}
 use mathlib.Core.Bool.{Bool}
 use mathlib.Core.Logic.{⊎_elim}
-use mathlib.Core.List.{List, [], ◌∷◌, ◌++◌}
+use mathlib.Core.List.{List, [], ◌++◌}
 use Prim.Native.Nat.{ℕ, ◌+◌, ◌-◌, ◌≤◌, ◌<◌}
 use native.Mathlib.Nat.{zero-add}
 use native.Mathlib.Omega.{arith}
-use denote.Enum.Declared.{tag_of}
-use types.Run.{OneOf, miss}
 use borrow.Author.Tests.{le-leb, lt-leb}
 use lib.ListN.{length, get_or, drop, length-append, length-drop, get_or-append}
 use lib.Seq.{ext_get_or, get_or-append-add, get_or-drop}
-use Rattle.common.specs.Text.{text_bytes}
 use Rattle.common.specs.declared.refusal.Refusal.TheVariants as refusal
 use Rattle.pieces.specs.Write.{sat, sat32, Wrote}
 use Rattle.pieces.specs.Answer as says
 use Rattle.pieces.specs.Did.{Says, SaysText, laid, laid_text}
 use Rattle.pieces.specs.declared.said.Said.{Said}
 use Rattle.pieces.specs.declared.said.Said.TheVariants as said
-use Rattle.pieces.specs.contracts.said.Said as saids
-use Rattle.pieces.proofs.Laws.{below?, next}
+use Rattle.std.proofs.lemmas.Bool.{cases_lt}
+use Rattle.pieces.proofs.Laws.{next}
 use Rattle.engine.specs.Apply.{Ap}
 use Rattle.conversion.specs.Laid.{Laid, Answered}
 use Rattle.conversion.specs.Entry.{call, answer_in, output_after, settled}
@@ -42,20 +39,10 @@ whole o p t n e h w = ext_get_or 0 p (t ++ drop n o) (w.same ∙ simp (length-ap
         let q : length t + (i - length t) ≡ i = omega arith in
         w.above i (omega arith) ∙ ap (λ (j : ℕ). get_or o j 0) (let r : i ≡ n + (i - length t) = omega arith in r)
         ∙ sym (get_or-drop n o (i - length t) 0) ∙ sym (get_or-append-add t (drop n o) (i - length t) 0) ∙ ap (λ (j : ℕ). get_or (t ++ drop n o) j 0) q)
-        (below? i (length t))
+        (cases_lt i (length t))
 
 pub same_text : {o p s t : List ℕ} {pos lim : ℕ} → s ≡ t → Wrote o p pos lim s → Wrote o p pos lim t
 same_text {o} {p} {pos = pos} {lim = lim} e w = subst (Wrote o p pos lim) e w
-
--- any other word lays nothing
-pub laid_none : (img : List ℕ) (lim : ℕ) (o : List ℕ) (s : Said) → OneOf (0 ∷ 2 ∷ 3 ∷ 4 ∷ 5 ∷ 6 ∷ []) (tag_of saids.the_type s) → Laid img lim o o s
-laid_none img lim o (said.Number x) h = refl
-laid_none img lim o (said.Words from to) h = absurd (miss (0 ∷ 2 ∷ 3 ∷ 4 ∷ 5 ∷ 6 ∷ []) 1 tt h)
-laid_none img lim o (said.Text e) h = refl
-laid_none img lim o said.Unchanged h = refl
-laid_none img lim o said.Unknown h = refl
-laid_none img lim o said.Formula h = refl
-laid_none img lim o said.Broken h = refl
 
 -- ---- a text, by its length
 module _ (a : ℕ) (t o : List ℕ) where
@@ -71,7 +58,7 @@ module _ (a : ℕ) (t o : List ℕ) where
 -- the call's word for what was said
 abbrev pub worded : ℕ → Said → Answer
 worded a (said.Number x) = answer.Number x
-worded a (said.Words from to) = answer.Unchanged
+worded a (said.Words run) = answer.Unchanged
 worded a (said.Text e) = answer.Unchanged
 worded a said.Unchanged = answer.Unchanged
 worded a said.Unknown = answer.Unknown
@@ -80,7 +67,7 @@ worded a said.Broken = answer.Refused (refusal.Short a)
 
 abbrev pub NoText : Said → Type 0
 NoText (said.Number x) = Unit {0}
-NoText (said.Words from to) = ⊥
+NoText (said.Words run) = ⊥
 NoText (said.Text e) = ⊥
 NoText said.Unchanged = Unit {0}
 NoText said.Unknown = Unit {0}
@@ -89,26 +76,31 @@ NoText said.Broken = Unit {0}
 
 not_both : (img : List ℕ) (room : ℕ) (t : List ℕ) (s : Said) → SaysText img room 0 t s → NoText s → ⊥
 not_both img room t (said.Number x) k n = k
-not_both img room t (said.Words from to) k n = n
+not_both img room t (said.Words run) k n = n
 not_both img room t (said.Text e) k n = n
 not_both img room t said.Unchanged k n = k
 not_both img room t said.Unknown k n = k
 not_both img room t said.Formula k n = k
 not_both img room t said.Broken k n = k
 
-pub quietly : (img : List ℕ) (a : ℕ) (x : says.Answer) (o : List ℕ) (s : Said) → Says img (length o) 0 x s → NoText s → Answered a x o o (worded a s)
+by_answer : (img : List ℕ) (a : ℕ) (x : says.Answer) (o : List ℕ) (s : Said) → Says img (length o) 0 x s → NoText s → Answered a x o o (worded a s)
 unfolding answer_in output_after
-quietly img a (says.number y) o s k n = (ap (worded a) k, refl)
-quietly img a (says.text t) o s k n = absurd (not_both img (length o) t s k n)
-quietly img a says.unchanged o s k n = (ap (worded a) k, refl)
-quietly img a says.unknown o s k n = (ap (worded a) k, refl)
-quietly img a says.formula o s k n = (ap (worded a) k, refl)
-quietly img a says.broken o s k n = (ap (worded a) k, refl)
+by_answer img a (says.number y) o s k n = (ap (worded a) k, refl)
+by_answer img a (says.text t) o s k n = absurd (not_both img (length o) t s k n)
+by_answer img a says.unchanged o s k n = (ap (worded a) k, refl)
+by_answer img a says.unknown o s k n = (ap (worded a) k, refl)
+by_answer img a says.formula o s k n = (ap (worded a) k, refl)
+by_answer img a says.broken o s k n = (ap (worded a) k, refl)
+
+-- the answer to what was said, where that is no text
+pub quietly : (img : List ℕ) (a : ℕ) (x : says.Answer) (o : List ℕ) (s t : Said) → t ≡ s → Says img (length o) 0 x t → NoText s
+    → Answered a x o o (worded a s)
+quietly img a x o s t e k n = by_answer img a x o s (subst (Says img (length o) 0 x) e k) n
 
 -- ---- a text that was said
 abbrev pub IsText : Said → Type 0
 IsText (said.Number x) = ⊥
-IsText (said.Words from to) = Unit {0}
+IsText (said.Words run) = Unit {0}
 IsText (said.Text e) = Unit {0}
 IsText said.Unchanged = ⊥
 IsText said.Unknown = ⊥
@@ -119,7 +111,7 @@ IsText said.Broken = ⊥
 pub laid_whole : (img : List ℕ) (room : ℕ) (t : List ℕ) (e : ℕ) {o p q : List ℕ} (s : Said) → e ≡ length t → e ≤ length o → SaysText img room 0 t s
     → Wrote o p 0 e (laid_text t s) → Laid img e p q s → Wrote o q 0 e t
 laid_whole img room t e (said.Number x) n f k w l = absurd k
-laid_whole img room t e {o} {p} {q} (said.Words from to) n f k w l =
+laid_whole img room t e {o} {p} {q} (said.Words run) n f k w l =
     let start : 0 ≡ sat (length o) (0 + 0) = omega arith in
     next o p q 0 e 0 [] t f start w (subst (Wrote p q 0 e) (sym k.0) l)
 laid_whole img room t e {o} {p} {q} (said.Text d) n f k w l = subst (λ (r : List ℕ). Wrote o r 0 e t) (sym l) w
@@ -148,15 +140,6 @@ no_room img a says.unchanged o e told full = absurd (subst IsText told tt)
 no_room img a says.unknown o e told full = absurd (subst IsText told tt)
 no_room img a says.formula o e told full = absurd (subst IsText told tt)
 no_room img a says.broken o e told full = absurd (subst IsText told tt)
-
--- a run that was said is the text
-pub run_said : (img : List ℕ) (room : ℕ) (x : says.Answer) (from to : ℕ) → Says img room 0 x (said.Words from to) → x ≡ says.text (text_bytes img from to)
-run_said img room (says.text t) from to k = ap says.text k.0
-run_said img room (says.number y) from to k = absurd (subst IsText k tt)
-run_said img room says.unchanged from to k = absurd (subst IsText k tt)
-run_said img room says.unknown from to k = absurd (subst IsText k tt)
-run_said img room says.formula from to k = absurd (subst IsText k tt)
-run_said img room says.broken from to k = absurd (subst IsText k tt)
 
 -- ---- the call
 -- the measuring pass has left the output as it was

@@ -2,25 +2,23 @@
 --
 -- An image is one or more blocks in a row, from address 0 on; a comment names the addresses. A block has a zero reserved field, no range, and NIL
 -- unit, comment and inverse links; a text ends in one zero byte. Values are written by their 64 bits.
-use Rattle.std.specs.Prelude.{ℕ, ◌+◌, ◌*◌, Bool, true, false, List, [], ◌∷◌, ◌++◌, negsuc, length, replicate}
+use Rattle.std.specs.Prelude.{ℕ, is_some, ◌+◌, ◌*◌, Bool, true, false, List, [], ◌∷◌, ◌++◌, negsuc, length, replicate, Err, Ok, Result}
 use Rattle.std.specs.Float.{nan, binary64}
 use Rattle.std.specs.Float.Ieee.{of_bits, to_bits}
 use Rattle.words.specs.Words.{bytes2, bytes4, bytes8, links}
 use Rattle.common.specs.Header.{conversion_id, text_id}
 use Rattle.common.specs.Refusal.{number_of}
 use Rattle.blocks.specs.Block.{parsed}
-use Rattle.blocks.specs.declared.Parsed.{Parsed}
-use Rattle.blocks.specs.declared.Parsed.TheVariants.{Whole, Refused as NotParsed}
 use Rattle.rules.specs.declared.number.Value.{Value}
 use Rattle.rules.specs.declared.number.Value.TheVariants as value
 use Rattle.steps.specs.Mode.{standard}
 use Rattle.tree.specs.Images.{two_links}
 use Rattle.tree.specs.Walk.{checked}
-use Rattle.tree.specs.declared.Checked.{Checked}
-use Rattle.tree.specs.declared.Checked.TheVariants.{Accepted, Unsound}
 use Rattle.conversion.specs.Entry.{Call, applying}
 use Rattle.conversion.specs.declared.logic.Answer.{Answer}
 use Rattle.conversion.specs.declared.logic.Answer.TheVariants.{Number, Text, Unchanged, Unknown, Refused}
+use Rattle.blocks.specs.declared.Block.{Block}
+use Rattle.common.specs.declared.refusal.Refusal.{Refusal}
 
 -- ---- what is asked and answered
 -- apply the conversion at 0, with a limit of 9 visits, to a value, with so much room of bytes 170; parse the block at 0; check the tree at 0
@@ -57,13 +55,13 @@ flagged false r = r
 abbrev pub of_call : Call → Reply
 of_call c = flagged c.result.malformed (told c.result.answer c.output c.result.checked c.result.applied)
 
-abbrev pub of_parsed : Parsed → Reply
-of_parsed (Whole b) = range b.ranged
-of_parsed (NotParsed r) = not_parsed (number_of r)
+abbrev pub of_parsed : Result Block Refusal → Reply
+of_parsed (Ok b) = range (is_some b.range)
+of_parsed (Err r) = not_parsed (number_of r)
 
-abbrev pub of_checked : Checked → Reply
-of_checked (Accepted n) = visits n
-of_checked (Unsound r) = unsound (number_of r)
+abbrev pub of_checked : Result ℕ Refusal → Reply
+of_checked (Ok n) = visits n
+of_checked (Err r) = unsound (number_of r)
 
 -- what the definitions answer
 abbrev pub answered : Question → Reply

@@ -1,16 +1,12 @@
 -- What one call of applying answers, and what the lent output holds then (document 01, "Applying", "What a call can say"). Assumes nothing: these
 -- are definitions.
-use Rattle.std.specs.Prelude.{ℕ, false, cond, List, ◌++◌, leb, length, drop}
+use Rattle.std.specs.Prelude.{ℕ, false, cond, List, ◌++◌, leb, length, drop, Err, None, Ok, Option, Result}
 use Rattle.common.specs.Refusal.{number_of, address_of}
 use Rattle.common.specs.declared.refusal.Refusal.{Refusal}
 use Rattle.common.specs.declared.refusal.Refusal.TheVariants as refusal
-use Rattle.common.specs.declared.refusal.Word.{Word}
-use Rattle.common.specs.declared.refusal.Word.TheVariants.{NoWord}
 use Rattle.rules.specs.declared.number.Value.{Value}
 use Rattle.steps.specs.declared.mode.Mode.{Mode}
 use Rattle.tree.specs.Walk.{checked}
-use Rattle.tree.specs.declared.Checked.{Checked}
-use Rattle.tree.specs.declared.Checked.TheVariants.{Accepted, Unsound}
 use Rattle.pieces.specs.Answer as says
 use Rattle.engine.specs.Apply.{Ap, applied}
 use Rattle.conversion.specs.declared.logic.Answer.{Answer}
@@ -26,11 +22,11 @@ refusal_number Unknown = 0
 refusal_number (Refused r) = number_of r
 
 -- the address that refusals 1 to 6 and 18 carry
-abbrev pub address_in : Answer → Word
-address_in (Number x) = NoWord
-address_in (Text n) = NoWord
-address_in Unchanged = NoWord
-address_in Unknown = NoWord
+abbrev pub address_in : Answer → Option ℕ
+address_in (Number x) = None
+address_in (Text n) = None
+address_in Unchanged = None
+address_in Unknown = None
 address_in (Refused r) = address_of r
 
 -- the answer, with N, M and whether a malformed table was consulted; and what the lent output holds
@@ -70,9 +66,9 @@ abbrev pub refused_before : Refusal → Applied
 refused_before r = record { answer = Refused r; checked = 0; applied = 0; malformed = false }
 
 -- check refusals come first
-abbrev pub by_check : Checked → (ℕ → Call) → List ℕ → Call
-by_check (Accepted n) f out = f n
-by_check (Unsound r) f out = call (refused_before r) out
+abbrev pub by_check : Result ℕ Refusal → (ℕ → Call) → List ℕ → Call
+by_check (Ok n) f out = f n
+by_check (Err r) f out = call (refused_before r) out
 
 -- one call checks, then applies: depths 0 to 20 are 21 levels
 unfoldable pub applying : Mode → List ℕ → ℕ → ℕ → Value → List ℕ → List ℕ → Call

@@ -11,7 +11,7 @@ use Rattle.conversion.specs.declared.logic.Answer.{Answer}
 -- o became p: a text that runs in the image is copied as far as the limit, and all else changes nothing
 abbrev pub Laid : List ℕ → ℕ → List ℕ → List ℕ → Said → Type 0
 Laid img lim o p (said.Number x) = p ≡ o
-Laid img lim o p (said.Words from to) = Wrote o p 0 lim (text_bytes img from to)
+Laid img lim o p (said.Words run) = Wrote o p 0 lim (text_bytes img run.from run.to)
 Laid img lim o p (said.Text e) = p ≡ o
 Laid img lim o p said.Unchanged = p ≡ o
 Laid img lim o p said.Unknown = p ≡ o

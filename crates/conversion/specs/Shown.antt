@@ -1,46 +1,43 @@
 -- What the second entry of type 10 shows (document 01: "it shows a part of the image, or the whole question. The question is shown unless the
 -- check accepts, the root has type 10 and a text is chosen."). Assumes nothing: these are definitions.
-use Rattle.std.specs.Prelude.{ℕ, ◌+◌, cond, List, eqb, length}
+use Rattle.std.specs.Prelude.{ℕ, ◌+◌, cond, List, eqb, length, Err, None, Ok, Option, Result, Some}
 use Rattle.words.specs.Words.{part, PartIn}
 use Rattle.common.specs.Text.{text_bytes}
 use Rattle.blocks.specs.View.{seen}
-use Rattle.blocks.specs.declared.view.Seen.{Seen}
-use Rattle.blocks.specs.declared.view.Seen.TheVariants.{Open, Cut}
 use Rattle.leads.specs.Keys.{translated}
 use Rattle.leads.specs.declared.lead.Lead.{Lead}
 use Rattle.leads.specs.declared.lead.Lead.TheVariants.{Words, Nested, Nil, Elsewhere}
 use Rattle.tree.specs.Walk.{checked}
-use Rattle.tree.specs.declared.Checked.{Checked}
-use Rattle.tree.specs.declared.Checked.TheVariants.{Accepted, Unsound}
-use Rattle.conversion.specs.declared.shown.Shown.{Shown}
-use Rattle.conversion.specs.declared.shown.Shown.TheVariants.{Part, Question}
+use Rattle.blocks.specs.declared.view.View.{View}
+use Rattle.common.specs.declared.refusal.Refusal.{Refusal}
+use Rattle.common.specs.declared.text.Span.{Span}
 
 -- a text is chosen: it is shown to its end
-abbrev pub of_lead : List ℕ → Lead → Shown
-of_lead img (Words from to) = Part from (from + length (text_bytes img from to))
-of_lead img (Nested a) = Question
-of_lead img Nil = Question
-of_lead img Elsewhere = Question
+abbrev pub of_lead : List ℕ → Lead → Option Span
+of_lead img (Words run) = Some (record { from = run.from; to = run.from + length (text_bytes img run.from run.to) })
+of_lead img (Nested a) = None
+of_lead img Nil = None
+of_lead img Elsewhere = None
 
 -- the root has type 10
-abbrev pub of_block : List ℕ → List ℕ → Seen → Shown
-of_block img question (Open b) = cond (eqb b.kind 10) (of_lead img (translated img b question)) Question
-of_block img question Cut = Question
+abbrev pub of_block : List ℕ → List ℕ → Option View → Option Span
+of_block img question (Some b) = cond (eqb b.kind 10) (of_lead img (translated img b question)) None
+of_block img question None = None
 
 -- the check accepts
-abbrev pub of_check : Checked → Shown → Shown
-of_check (Accepted n) s = s
-of_check (Unsound r) s = Question
+abbrev pub of_check : Result ℕ Refusal → Option Span → Option Span
+of_check (Ok n) s = s
+of_check (Err r) s = None
 
-unfoldable pub shown_for : List ℕ → ℕ → ℕ → List ℕ → Shown
+unfoldable pub shown_for : List ℕ → ℕ → ℕ → List ℕ → Option Span
 shown_for img a limit question = of_check (checked img a limit) (of_block img question (seen img a))
 
 -- the bytes that are shown
-abbrev pub showing : List ℕ → List ℕ → Shown → List ℕ
-showing img question (Part from to) = part img from to
-showing img question Question = question
+abbrev pub showing : List ℕ → List ℕ → Option Span → List ℕ
+showing img question (Some s) = part img s.from s.to
+showing img question None = question
 
 -- a part lies in the image
-abbrev pub ShownIn : List ℕ → Shown → Type 0
-ShownIn img (Part from to) = PartIn img from to
-ShownIn img Question = Unit {0}
+abbrev pub ShownIn : List ℕ → Option Span → Type 0
+ShownIn img (Some s) = PartIn img s.from s.to
+ShownIn img None = Unit {0}

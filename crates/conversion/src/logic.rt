@@ -10,21 +10,23 @@ ghost use Rattle.pieces.specs.Answer as says;
 ghost use Rattle.pieces.specs.Did.{Says, SaidIn};
 ghost use Rattle.pieces.specs.declared.said.Said.TheVariants.{Text};
 ghost use Rattle.tree.specs.Walk.{checked as checked_tree};
-ghost use Rattle.tree.specs.declared.Checked.TheVariants.{Accepted};
 ghost use Rattle.steps.specs.Mode.{standard};
 ghost use Rattle.engine.specs.Apply.{applied as applied_to};
 ghost use Rattle.conversion.specs.Laid.{Laid, Answered};
 ghost use Rattle.conversion.specs.Entry.{refusal_number, address_in, call, settled, refused_before, applying};
 
-use common::refusal::{Refusal, Word};
+use common::refusal::Refusal;
+use common::text::Span;
 use engine::apply as apply_block;
-use pieces::paste::{copy, measure, paste};
+use pieces::paste::{Place, copy, measure, paste};
 use pieces::said::Said;
 use rules::number::Value;
 use steps::mode::Mode;
-use tree::{Checked, check};
+use steps::step::Asked;
+use tree::check;
 
-// Document 01's answers.
+// Document 01's answers. A refusal stands among them, and not in a Result beside them: docs/RULES.md has one enum, of which `refusal_number`,
+// `address_in` and `answer_face` say each case, and a refusal of applying comes with N and M as every answer does.
 #[derive(Clone, Copy)]
 pub enum Answer {
     Number(f64),
@@ -47,12 +49,12 @@ impl Answer {
     }
 
     // The address that refusals 1 to 6 and 18 carry.
-    pub fn address(self) -> Word
+    pub fn address(self) -> Option<u64>
         ensures { result ≡ address_in self }
     {
         match self {
             Answer::Refused(refusal) => refusal.address(),
-            _ => Word::NoWord,
+            _ => None,
         }
     }
 }
@@ -82,16 +84,19 @@ impl Applied {
 }
 
 // A text that runs in the image: it is looked at once, no further than one byte past the room, and then copied if it fits.
-fn lay_run(image: &[u8], from: usize, to: usize, address: u64, out: &mut [u8]) -> Answer
-    requires { PartIn image.now from to }
-    ensures { Answered address (says.text (text_bytes image.now from to)) out.old out.new result }
+fn lay_run(image: &[u8], run: Span, address: u64, out: &mut [u8]) -> Answer
+    requires { PartIn image.now run.from run.to }
+    ensures { Answered address (says.text (text_bytes image.now run.from run.to)) out.old out.new result }
 {
-    let end = measure(image, from, to, out.len(), 0);
-    let size = end - from;
+    let text = Span {
+        to: measure(image, run, out.len(), 0),
+        ..run
+    };
+    let size = text.to - text.from;
     if out.len() < size {
         return Answer::Refused(Refusal::Room);
     }
-    copy(image, from, end, out, 0, size);
+    copy(image, text, out, Place { pos: 0, lim: size });
     Answer::Text(size)
 }
 
@@ -100,54 +105,34 @@ fn lay_said(image: &[u8], said: Said, out: &mut [u8], lim: usize)
     requires { (lim ≤ length out.old) × SaidIn image.now said }
     ensures { Laid image.now lim out.old out.new said }
 {
-    match said {
-        Said::Words(from, to) => {
-            paste(image, from, to, out, 0, lim);
-        }
-        _ => {}
+    if let Said::Words(run) = said {
+        paste(image, run, out, Place { pos: 0, lim });
     }
 }
 
 // A text that bit groups put together, measured: a second pass writes it, if it fits.
-fn write_text(
-    mode: Mode,
-    image: &[u8],
-    address: u64,
-    value: Value,
-    text: &[u8],
-    size: usize,
-    out: &mut [u8],
-) -> Answer
-    requires { (address + 24 ≤ length image.now)
-        × Says image.now (length out.old) 0 (applied_to 21 mode image.now text.now address value).says (Text size) }
-    ensures { Answered address (applied_to 21 mode image.now text.now address value).says out.old out.new result }
+fn write_text(asked: &Asked<'_>, address: u64, value: Value, size: usize, out: &mut [u8]) -> Answer
+    requires { (address + 24 ≤ length asked.now.image.now)
+        × Says asked.now.image.now (length out.old) 0 (applied_to 21 asked.now.mode asked.now.image.now asked.now.text.now address value).says (Text size) }
+    ensures { Answered address (applied_to 21 asked.now.mode asked.now.image.now asked.now.text.now address value).says out.old out.new result }
 {
     if out.len() < size {
         return Answer::Refused(Refusal::Room);
     }
-    let x = apply_block(mode, image, address, value, text, 21, out, 0, size);
-    let said = x.said;
-    lay_said(image, said, out, size);
+    let x = apply_block(asked, address, value, 21, out, Place { pos: 0, lim: size });
+    lay_said(asked.image, x.said, out, size);
     Answer::Text(size)
 }
 
 // What the measuring pass has said, as document 01's answer; a text goes to the output.
-fn settle(
-    mode: Mode,
-    image: &[u8],
-    address: u64,
-    value: Value,
-    text: &[u8],
-    said: Said,
-    out: &mut [u8],
-) -> Answer
-    requires { (address + 24 ≤ length image.now)
-        × Says image.now (length out.old) 0 (applied_to 21 mode image.now text.now address value).says said }
-    ensures { Answered address (applied_to 21 mode image.now text.now address value).says out.old out.new result }
+fn settle(asked: &Asked<'_>, address: u64, value: Value, said: Said, out: &mut [u8]) -> Answer
+    requires { (address + 24 ≤ length asked.now.image.now)
+        × Says asked.now.image.now (length out.old) 0 (applied_to 21 asked.now.mode asked.now.image.now asked.now.text.now address value).says said }
+    ensures { Answered address (applied_to 21 asked.now.mode asked.now.image.now asked.now.text.now address value).says out.old out.new result }
 {
     match said {
-        Said::Words(from, to) => lay_run(image, from, to, address, out),
-        Said::Text(size) => write_text(mode, image, address, value, text, size, out),
+        Said::Words(run) => lay_run(asked.image, run, address, out),
+        Said::Text(size) => write_text(asked, address, value, size, out),
         Said::Number(x) => Answer::Number(x),
         Said::Unchanged => Answer::Unchanged,
         Said::Unknown => Answer::Unknown,
@@ -159,22 +144,19 @@ fn settle(
 
 // After a check that was accepted with n visits.
 fn apply_checked(
-    mode: Mode,
-    image: &[u8],
+    asked: &Asked<'_>,
     address: u64,
     limit: u32,
     n: u32,
     value: Value,
-    text: &[u8],
     out: &mut [u8],
 ) -> Applied
-    requires { checked_tree image.now address limit ≡ Accepted n }
+    requires { checked_tree asked.now.image.now address limit ≡ Ok n }
     ensures { call result out.new
-        ≡ settled n address (applied_to 21 mode image.now text.now address value) out.old }
+        ≡ settled n address (applied_to 21 asked.now.mode asked.now.image.now asked.now.text.now address value) out.old }
 {
-    let x = apply_block(mode, image, address, value, text, 21, out, 0, 0);
-    let said = x.said;
-    let answer = settle(mode, image, address, value, text, said, out);
+    let x = apply_block(asked, address, value, 21, out, Place { pos: 0, lim: 0 });
+    let answer = settle(asked, address, value, x.said, out);
     Applied {
         answer,
         checked: n,
@@ -183,7 +165,7 @@ fn apply_checked(
     }
 }
 
-// In any mode.
+// In any mode. The parameters of both entries are those of the exports; within, what goes together is `Asked`.
 pub fn apply_in(
     mode: Mode,
     image: &[u8],
@@ -196,8 +178,11 @@ pub fn apply_in(
     ensures { call result out.new ≡ applying mode image.now address limit value text.now out.old }
 {
     match check(image, address, limit) {
-        Checked::Accepted(n) => apply_checked(mode, image, address, limit, n, value, text, out),
-        Checked::Unsound(refusal) => Applied::refused(refusal),
+        Ok(n) => {
+            let asked = Asked { mode, image, text };
+            apply_checked(&asked, address, limit, n, value, out)
+        }
+        Err(refusal) => Applied::refused(refusal),
     }
 }
 

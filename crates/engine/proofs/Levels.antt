@@ -9,6 +9,7 @@ use Rattle.rules.specs.declared.number.Value.{Value}
 use Rattle.steps.specs.Step.{step_of}
 use Rattle.steps.specs.declared.mode.Mode.{Mode}
 use Rattle.pieces.specs.Write.{Put}
+use Rattle.pieces.specs.declared.paste.Place.{Place}
 use Rattle.pieces.specs.Answer.{Answer, number, text, unchanged, unknown, formula, broken, prefixed}
 use Rattle.pieces.specs.Did.{Did, NoWords}
 use Rattle.pieces.specs.declared.said.Outcome.{Outcome}
@@ -33,6 +34,6 @@ two_prefixes p q formula = refl
 two_prefixes p q broken = refl
 
 -- an answer behind "|" and a name
-pub labelled_did : {img o p q : List ℕ} (pre name : List ℕ) {pos lim e n : ℕ} {odd : Bool} (x : Answer) {r : Outcome} → lim ≤ length o → NoWords r.said
-    → Put o p pos lim (pre ++ name) e → Did img p q e lim x n odd r → Did img o q pos lim (prefixed pre (prefixed name x)) n odd r
-labelled_did pre name x fits plain put did = rw (two_prefixes pre name x) (prefixed_did fits plain put did)
+pub labelled_did : {img o p q : List ℕ} (pre name : List ℕ) {at e : Place} {n : ℕ} {odd : Bool} (x : Answer) {r : Outcome} → at.lim ≤ length o → NoWords r.said
+    → Put o p at (pre ++ name) e → Did img p q e.pos e.lim x n odd r → Did img o q at.pos at.lim (prefixed pre (prefixed name x)) n odd r
+labelled_did pre name x fits plain put did = rw (two_prefixes pre name x) (prefixed_did _ fits put plain did)

@@ -1,10 +1,8 @@
 -- Applying a conversion to a value (document 01, "Applying"): what is answered, the blocks begun, and whether a malformed table was consulted
 -- (request [5]), by recursion on the levels left. Every rule takes the nested application as an argument. Assumes nothing: these are definitions.
-use Rattle.std.specs.Prelude.{ℕ, zero, suc, min, Bool, false, ◌||◌, List, [], ◌∷◌, ◌++◌, length}
+use Rattle.std.specs.Prelude.{ℕ, zero, suc, min, Bool, false, ◌||◌, List, [], ◌∷◌, ◌++◌, length, None, Option, Some}
 use Rattle.std.specs.Int.Bits.{bit_and}
 use Rattle.common.specs.Text.{text_bytes}
-use Rattle.common.specs.declared.refusal.Word.{Word}
-use Rattle.common.specs.declared.refusal.Word.TheVariants.{Bits, NoWord}
 use Rattle.blocks.specs.View.{value_word_in}
 use Rattle.blocks.specs.declared.view.View.{View}
 use Rattle.leads.specs.Lead.{lead_at}
@@ -49,9 +47,9 @@ passed_on nested img v (choice.Nested a) = nested a v
 passed_on nested img v (choice.Done p) = quiet (spelled img p)
 
 -- ---- bit groups
-abbrev pub mask_by : Word → ℕ
-mask_by (Bits w) = w
-mask_by NoWord = 0
+abbrev pub mask_by : Option ℕ → ℕ
+mask_by (Some w) = w
+mask_by None = 0
 
 -- the bits of value i
 abbrev pub mask_at : List ℕ → View → ℕ → ℕ
@@ -66,7 +64,7 @@ prefixed_ap pre x = record { says = prefixed pre x.says; begun = x.begun; malfor
 
 -- a direct text is a part whatever the masked value; a conversion is applied to the masked unsigned integer, with name and " = " before its text
 abbrev pub part_of : (ℕ → Value → Ap) → List ℕ → Lead → ℕ → Ap
-part_of nested img (lead.Words from to) masked = quiet (text (text_bytes img from to))
+part_of nested img (lead.Words run) masked = quiet (text (text_bytes img run.from run.to))
 part_of nested img (lead.Nested a) masked = prefixed_ap (label img a) (nested a (Unsigned masked))
 part_of nested img lead.Nil masked = quiet unchanged
 part_of nested img lead.Elsewhere masked = quiet unchanged

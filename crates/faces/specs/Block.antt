@@ -1,18 +1,16 @@
 -- How C sees a parsed block and what was written. Fields that do not apply are 0. Assumes nothing: these are definitions.
-use Rattle.std.specs.Prelude.{Bool, true, false, not, List, ℕ, eqb}
+use Rattle.std.specs.Prelude.{Option, Some, None, is_some, cond, Bool, true, false, not, List, ℕ, eqb, Err, Ok, Result}
 use Rattle.std.specs.Float.{binary64}
 use Rattle.std.specs.Float.Ieee.{of_bits}
 use Rattle.common.specs.Refusal.{number_of, address_of}
 use Rattle.blocks.specs.declared.Block.{Block}
-use Rattle.blocks.specs.declared.Parsed.{Parsed}
-use Rattle.blocks.specs.declared.Parsed.TheVariants.{Whole, Refused}
+use Rattle.blocks.specs.declared.Range.{Range}
 use Rattle.common.specs.Written.{WriteCall}
-use Rattle.common.specs.declared.written.Written.{Written}
-use Rattle.common.specs.declared.written.Written.TheVariants.{Bytes, Unwritten}
 use Rattle.faces.specs.Checked.{address_or}
 use Rattle.faces.specs.declared.block.MdfBlock.{MdfBlock}
 use Rattle.faces.specs.declared.block.MdfParsed.{MdfParsed}
 use Rattle.faces.specs.declared.written.MdfWritten.{MdfWritten}
+use Rattle.common.specs.declared.refusal.Refusal.{Refusal}
 
 -- a truth as C has it: 1 or 0 out of parsing; for writing any number but 0 is true
 abbrev pub flag_of : Bool → ℕ
@@ -21,6 +19,11 @@ flag_of false = 0
 
 abbrev pub is_set : ℕ → Bool
 is_set n = not (eqb n 0)
+
+-- a range's fields; they are 0 where there is none
+abbrev pub range_fields : Option Range → Range
+range_fields (Some r) = r
+range_fields None = record { minimum = of_bits binary64 0; maximum = of_bits binary64 0; minword = 0; maxword = 0 }
 
 -- the record's fields, without its places in the image
 abbrev pub block_face : Block → MdfBlock
@@ -32,10 +35,10 @@ block_face b =
       unit = b.unit;
       comment = b.comment;
       inverse = b.inverse;
-      minimum = b.minimum;
-      maximum = b.maximum;
-      minword = b.minword;
-      maxword = b.maxword;
+      minimum = (range_fields b.range).minimum;
+      maximum = (range_fields b.range).maximum;
+      minword = (range_fields b.range).minword;
+      maxword = (range_fields b.range).maxword;
       excess = b.excess;
       reserved = b.reserved;
       flags = b.flags;
@@ -43,8 +46,12 @@ block_face b =
       valcount = b.valcount;
       kind = b.kind;
       precision = b.precision;
-      ranged = flag_of b.ranged;
+      ranged = flag_of (is_some b.range);
     }
+
+abbrev pub range_of : MdfBlock → Option Range
+range_of b =
+    cond (is_set b.ranged) (Some (record { minimum = b.minimum; maximum = b.maximum; minword = b.minword; maxword = b.maxword })) None
 
 -- the record of these fields, which stands nowhere in an image
 abbrev pub record_of : MdfBlock → Block
@@ -61,11 +68,7 @@ record_of b =
       flags = b.flags;
       refcount = b.refcount;
       valcount = b.valcount;
-      ranged = is_set b.ranged;
-      minimum = b.minimum;
-      maximum = b.maximum;
-      minword = b.minword;
-      maxword = b.maxword;
+      range = range_of b;
       firstref = 0;
       firstval = 0;
       reserved = b.reserved;
@@ -96,14 +99,14 @@ no_block =
     }
 
 -- refusal 0: the block was parsed
-abbrev pub parsed_face : Parsed → MdfParsed
-parsed_face (Whole b) = record { refusal = 0; address = 0; block = block_face b }
-parsed_face (Refused r) = record { refusal = number_of r; address = address_or (address_of r); block = no_block }
+abbrev pub parsed_face : Result Block Refusal → MdfParsed
+parsed_face (Ok b) = record { refusal = 0; address = 0; block = block_face b }
+parsed_face (Err r) = record { refusal = number_of r; address = address_or (address_of r); block = no_block }
 
 -- refusal 0: so many bytes were written
-abbrev pub written_face : Written → MdfWritten
-written_face (Bytes n) = record { refusal = 0; length = n }
-written_face (Unwritten r) = record { refusal = number_of r; length = 0 }
+abbrev pub written_face : Result ℕ Refusal → MdfWritten
+written_face (Ok n) = record { refusal = 0; length = n }
+written_face (Err r) = record { refusal = number_of r; length = 0 }
 
 -- the answer, and what the lent output holds
 pub record FaceWrote : Type 0 where

@@ -1,6 +1,6 @@
 // An application as C sees it, and the mode that C gives.
 ghost use Rattle.std.specs.Prelude.{◌≡◌};
-ghost use Rattle.faces.specs.Applied.{made_of, applied_face};
+ghost use Rattle.faces.specs.Applied.{applied_face};
 
 use crate::checked::address_or;
 use conversion::logic::{Answer, Applied};
@@ -8,7 +8,7 @@ use conversion::logic::{Answer, Applied};
 // `kind`: 0 refused, 1 number, 2 text, 3 unchanged, 4 unknown. `malformed`: 1 where a malformed table was consulted, else 0. Fields that do not
 // apply are 0.
 #[repr(C)]
-#[derive(Clone, Copy)]
+#[derive(Clone, Copy, Default)]
 pub struct MdfApplied {
     pub refusal: u32,
     pub kind: u32,
@@ -20,36 +20,35 @@ pub struct MdfApplied {
     pub malformed: u32,
 }
 
-// The fields that an answer decides, with the call's N, M and flag.
-fn made(refusal: u32, kind: u32, number: f64, length: u64, address: u64, a: Applied) -> MdfApplied
-    ensures { result ≡ made_of refusal kind number length address a }
-{
-    let malformed = a.malformed as u32;
-    MdfApplied {
-        refusal,
-        kind,
-        number,
-        length,
-        address,
-        checked: a.checked,
-        applied: a.applied,
-        malformed,
-    }
-}
+impl From<Applied> for MdfApplied {
+    ghost from_gives = { λ a m. m ≡ applied_face a };
 
-pub fn applied_face(a: Applied) -> MdfApplied
-    ensures { result ≡ applied_face a }
-{
-    let answer = a.answer;
-    match answer {
-        Answer::Number(x) => made(0, 1, x, 0, 0, a),
-        Answer::Text(n) => made(0, 2, 0.0, n as u64, 0, a),
-        Answer::Unchanged => made(0, 3, 0.0, 0, 0, a),
-        Answer::Unknown => made(0, 4, 0.0, 0, 0, a),
-        Answer::Refused(r) => {
-            let refusal = r.number() as u32;
-            let address = address_or(r.address());
-            made(refusal, 0, 0.0, 0, address, a)
+    fn from(a: Applied) -> MdfApplied {
+        // The call's N, M and flag, beside what the answer decides.
+        let call = MdfApplied {
+            checked: a.checked,
+            applied: a.applied,
+            malformed: u32::from(a.malformed),
+            ..MdfApplied::default()
+        };
+        match a.answer {
+            Answer::Number(number) => MdfApplied {
+                kind: 1,
+                number,
+                ..call
+            },
+            Answer::Text(length) => MdfApplied {
+                kind: 2,
+                length: length as u64,
+                ..call
+            },
+            Answer::Unchanged => MdfApplied { kind: 3, ..call },
+            Answer::Unknown => MdfApplied { kind: 4, ..call },
+            Answer::Refused(refusal) => MdfApplied {
+                refusal: u32::from(refusal.number()),
+                address: address_or(refusal.address()),
+                ..call
+            },
         }
     }
 }

@@ -1,12 +1,13 @@
 // A block as C sees it, and what parsing one answers.
 ghost use Rattle.std.specs.Prelude.{◌≡◌};
-ghost use Rattle.faces.specs.Block.{block_face, no_block, parsed_face};
+ghost use Rattle.faces.specs.Block.{block_face, parsed_face};
 
 use crate::checked::address_or;
-use blocks::{Block, Parsed};
+use blocks::Block;
+use common::refusal::Refusal;
 
 #[repr(C)]
-#[derive(Clone, Copy)]
+#[derive(Clone, Copy, Default)]
 pub struct MdfBlock {
     pub length: u64,
     pub links: u64,
@@ -38,70 +39,56 @@ pub struct MdfParsed {
     pub block: MdfBlock,
 }
 
-fn block_face(b: Block) -> MdfBlock
-    ensures { result ≡ block_face b }
-{
-    MdfBlock {
-        length: b.length,
-        links: b.links,
-        name: b.name,
-        unit: b.unit,
-        comment: b.comment,
-        inverse: b.inverse,
-        minimum: b.minimum,
-        maximum: b.maximum,
-        minword: b.minword,
-        maxword: b.maxword,
-        excess: b.excess,
-        reserved: b.reserved,
-        flags: b.flags,
-        refcount: b.refcount,
-        valcount: b.valcount,
-        kind: b.kind,
-        precision: b.precision,
-        ranged: b.ranged as u8,
+impl From<Block> for MdfBlock {
+    ghost from_gives = { λ b m. m ≡ block_face b };
+
+    fn from(b: Block) -> MdfBlock {
+        // The range's fields; they are 0 where there is none.
+        let ranged = match b.range {
+            Some(range) => MdfBlock {
+                minimum: range.minimum,
+                maximum: range.maximum,
+                minword: range.minword,
+                maxword: range.maxword,
+                ranged: 1,
+                ..MdfBlock::default()
+            },
+            None => MdfBlock::default(),
+        };
+        MdfBlock {
+            length: b.length,
+            links: b.links,
+            name: b.name,
+            unit: b.unit,
+            comment: b.comment,
+            inverse: b.inverse,
+            excess: b.excess,
+            reserved: b.reserved,
+            flags: b.flags,
+            refcount: b.refcount,
+            valcount: b.valcount,
+            kind: b.kind,
+            precision: b.precision,
+            ..ranged
+        }
     }
 }
 
-// The block's fields where none was parsed.
-fn no_block() -> MdfBlock
-    ensures { result ≡ no_block }
-{
-    MdfBlock {
-        length: 0,
-        links: 0,
-        name: 0,
-        unit: 0,
-        comment: 0,
-        inverse: 0,
-        minimum: 0.0,
-        maximum: 0.0,
-        minword: 0,
-        maxword: 0,
-        excess: 0,
-        reserved: 0,
-        flags: 0,
-        refcount: 0,
-        valcount: 0,
-        kind: 0,
-        precision: 0,
-        ranged: 0,
-    }
-}
+impl From<Result<Block, Refusal>> for MdfParsed {
+    ghost from_gives = { λ p m. m ≡ parsed_face p };
 
-pub fn parsed_face(p: Parsed) -> MdfParsed
-    ensures { result ≡ parsed_face p }
-{
-    match p {
-        Parsed::Whole(b) => MdfParsed {
-            refusal: 0,
-            address: 0,
-            block: block_face(b),
-        },
-        Parsed::Refused(r) => MdfParsed {
-            refusal: r.number() as u32,
-            address: address_or(r.address()),
-            block: no_block(),
-        },
+    fn from(p: Result<Block, Refusal>) -> MdfParsed {
+        match p {
+            Ok(b) => MdfParsed {
+                refusal: 0,
+                address: 0,
+                block: MdfBlock::from(b),
+            },
+            Err(r) => MdfParsed {
+                refusal: u32::from(r.number()),
+                address: address_or(r.address()),
+                block: MdfBlock::default(),
+            },
+        }
     }
 }

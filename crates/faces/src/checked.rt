@@ -2,9 +2,8 @@
 ghost use Rattle.std.specs.Prelude.{◌≡◌};
 ghost use Rattle.faces.specs.Checked.{address_or, checked_face, shown_face, Ordered};
 
-use common::refusal::Word;
-use conversion::shown::Shown;
-use tree::Checked;
+use common::refusal::Refusal;
+use common::text::Span;
 
 // 0 accepted, with the visits; or document 01's number of the refusal, with its address.
 #[repr(C)]
@@ -24,44 +23,44 @@ pub struct MdfShown {
     pub length: u64,
 }
 
-// An address, or 0 where there is none.
-pub fn address_or(w: Word) -> u64
-    ensures { result ≡ address_or w }
+// An address, or 0 where there is none: the one place for all that tell a refusal.
+pub fn address_or(address: Option<u64>) -> u64
+    ensures { result ≡ address_or address }
 {
-    match w {
-        Word::Bits(a) => a,
-        Word::NoWord => 0,
+    address.unwrap_or(0)
+}
+
+impl From<Result<u32, Refusal>> for MdfChecked {
+    ghost from_gives = { λ c m. m ≡ checked_face c };
+
+    fn from(c: Result<u32, Refusal>) -> MdfChecked {
+        match c {
+            Ok(n) => MdfChecked {
+                refusal: 0,
+                visits: n,
+                address: 0,
+            },
+            Err(r) => MdfChecked {
+                refusal: u32::from(r.number()),
+                visits: 0,
+                address: address_or(r.address()),
+            },
+        }
     }
 }
 
-pub fn checked_face(c: Checked) -> MdfChecked
-    ensures { result ≡ checked_face c }
-{
-    match c {
-        Checked::Accepted(n) => MdfChecked {
-            refusal: 0,
-            visits: n,
-            address: 0,
-        },
-        Checked::Unsound(r) => MdfChecked {
-            refusal: r.number() as u32,
-            visits: 0,
-            address: address_or(r.address()),
-        },
-    }
-}
-
-pub fn shown_face(s: Shown, length: usize) -> MdfShown
+// No `From`: it asks something of the part, and takes the question's length beside it.
+pub fn shown_face(s: Option<Span>, length: usize) -> MdfShown
     requires { Ordered s }
     ensures { result ≡ shown_face s length }
 {
     match s {
-        Shown::Part(from, to) => MdfShown {
+        Some(part) => MdfShown {
             fromimage: 1,
-            start: from as u64,
-            length: (to - from) as u64,
+            start: part.from as u64,
+            length: (part.to - part.from) as u64,
         },
-        Shown::Question => MdfShown {
+        None => MdfShown {
             fromimage: 0,
             start: 0,
             length: length as u64,

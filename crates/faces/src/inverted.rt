@@ -3,7 +3,7 @@ ghost use Rattle.std.specs.Prelude.{◌≡◌};
 ghost use Rattle.faces.specs.Inverted.{inverted_face};
 
 use crate::checked::address_or;
-use common::written::Written;
+use common::refusal::Refusal;
 
 // 0 with the length of the block that was made; or the number of the refusal, with the index of the key for 12 to 14, else with its address.
 #[repr(C)]
@@ -15,24 +15,23 @@ pub struct MdfInverted {
     pub length: u64,
 }
 
-pub fn inverted_face(w: Written) -> MdfInverted
-    ensures { result ≡ inverted_face w }
-{
-    match w {
-        Written::Bytes(n) => MdfInverted {
-            refusal: 0,
-            index: 0,
-            address: 0,
-            length: n as u64,
-        },
-        Written::Unwritten(r) => {
-            let refusal = r.number() as u32;
-            MdfInverted {
-                refusal,
-                index: r.index(),
+impl From<Result<usize, Refusal>> for MdfInverted {
+    ghost from_gives = { λ w m. m ≡ inverted_face w };
+
+    fn from(w: Result<usize, Refusal>) -> MdfInverted {
+        match w {
+            Ok(n) => MdfInverted {
+                refusal: 0,
+                index: 0,
+                address: 0,
+                length: n as u64,
+            },
+            Err(r) => MdfInverted {
+                refusal: u32::from(r.number()),
+                index: r.index().unwrap_or(0),
                 address: address_or(r.address()),
                 length: 0,
-            }
+            },
         }
     }
 }

@@ -1,4 +1,4 @@
-// How C sees what the public entries take and answer: structs with C's layouts, and the functions that fill them. Each fills every field. See each
+// How C sees what the public entries take and answer: structs with C's layouts, and the conversions that fill them. Each fills every field. See each
 // module.
 
 #![tactic(auto)]

@@ -3,7 +3,7 @@ ghost use Rattle.std.specs.Prelude.{◌≡◌};
 ghost use Rattle.faces.specs.Place.{word_face, unread_face};
 
 use crate::checked::address_or;
-use common::refusal::{Refusal, Word};
+use common::refusal::Refusal;
 
 // `found`: 1 where the block has that place, with its word; else 0.
 #[repr(C)]
@@ -15,32 +15,37 @@ pub struct MdfWord {
     pub word: u64,
 }
 
-pub fn word_face(w: Word) -> MdfWord
-    ensures { result ≡ word_face w }
-{
-    match w {
-        Word::Bits(word) => MdfWord {
-            refusal: 0,
-            found: 1,
-            address: 0,
-            word,
-        },
-        Word::NoWord => MdfWord {
-            refusal: 0,
-            found: 0,
-            address: 0,
-            word: 0,
-        },
+impl From<Option<u64>> for MdfWord {
+    ghost from_gives = { λ w m. m ≡ word_face w };
+
+    fn from(w: Option<u64>) -> MdfWord {
+        match w {
+            Some(word) => MdfWord {
+                refusal: 0,
+                found: 1,
+                address: 0,
+                word,
+            },
+            None => MdfWord {
+                refusal: 0,
+                found: 0,
+                address: 0,
+                word: 0,
+            },
+        }
     }
 }
 
-pub fn unread_face(refusal: Refusal) -> MdfWord
-    ensures { result ≡ unread_face refusal }
-{
-    MdfWord {
-        refusal: refusal.number() as u32,
-        found: 0,
-        address: address_or(refusal.address()),
-        word: 0,
+// No block was parsed.
+impl From<Refusal> for MdfWord {
+    ghost from_gives = { λ r m. m ≡ unread_face r };
+
+    fn from(refusal: Refusal) -> MdfWord {
+        MdfWord {
+            refusal: u32::from(refusal.number()),
+            found: 0,
+            address: address_or(refusal.address()),
+            word: 0,
+        }
     }
 }

@@ -3,6 +3,7 @@ ghost use Rattle.std.specs.Prelude.{◌≡◌};
 ghost use Rattle.faces.specs.Text.{id_number, id_of, text_face, InOrder};
 
 use crate::checked::address_or;
+use common::refusal::Refusal;
 use texts::read::{TextId, TextRead};
 
 // `id`: 0 ##TX, 1 ##MD. The text stands in the image from `start` on. Fields that do not apply are 0.
@@ -16,6 +17,7 @@ pub struct MdfText {
     pub length: u64,
 }
 
+// No `From`: neither an id nor a number is a type of this crate's.
 fn id_number(id: TextId) -> u32
     ensures { result ≡ id_number id }
 {
@@ -25,29 +27,31 @@ fn id_number(id: TextId) -> u32
     }
 }
 
+// No `From`, for the same reason: C gives a flag.
 pub fn id_of(metadata: bool) -> TextId
     ensures { result ≡ id_of metadata }
 {
     if metadata { TextId::Md } else { TextId::Tx }
 }
 
-pub fn text_face(t: TextRead) -> MdfText
+// No `From`: it asks something of the text.
+pub fn text_face(t: Result<TextRead, Refusal>) -> MdfText
     requires { InOrder t }
     ensures { result ≡ text_face t }
 {
     match t {
-        TextRead::Found(id, from, to) => {
-            let length = to - from;
+        Ok(read) => {
+            let length = read.text.to - read.text.from;
             MdfText {
                 refusal: 0,
-                id: id_number(id),
+                id: id_number(read.id),
                 address: 0,
-                start: from as u64,
+                start: read.text.from as u64,
                 length: length as u64,
             }
         }
-        TextRead::Unread(r) => MdfText {
-            refusal: r.number() as u32,
+        Err(r) => MdfText {
+            refusal: u32::from(r.number()),
             id: 0,
             address: address_or(r.address()),
             start: 0,

@@ -3,8 +3,8 @@ ghost use Rattle.std.specs.Prelude.{◌≡◌};
 ghost use Rattle.faces.specs.Block.{record_of, written_face};
 
 use crate::block::MdfBlock;
-use blocks::Block;
-use common::written::Written;
+use blocks::{Block, Range};
+use common::refusal::Refusal;
 
 #[repr(C)]
 #[derive(Clone, Copy)]
@@ -14,44 +14,49 @@ pub struct MdfWritten {
 }
 
 // The record of these fields; it stands nowhere in an image.
-pub fn record_of(b: MdfBlock) -> Block
-    ensures { result ≡ record_of b }
-{
-    Block {
-        length: b.length,
-        links: b.links,
-        name: b.name,
-        unit: b.unit,
-        comment: b.comment,
-        inverse: b.inverse,
-        kind: b.kind,
-        precision: b.precision,
-        flags: b.flags,
-        refcount: b.refcount,
-        valcount: b.valcount,
-        ranged: b.ranged != 0,
-        minimum: b.minimum,
-        maximum: b.maximum,
-        minword: b.minword,
-        maxword: b.maxword,
-        firstref: 0,
-        firstval: 0,
-        reserved: b.reserved,
-        excess: b.excess,
+impl From<MdfBlock> for Block {
+    ghost from_gives = { λ m b. b ≡ record_of m };
+
+    fn from(b: MdfBlock) -> Block {
+        Block {
+            length: b.length,
+            links: b.links,
+            name: b.name,
+            unit: b.unit,
+            comment: b.comment,
+            inverse: b.inverse,
+            kind: b.kind,
+            precision: b.precision,
+            flags: b.flags,
+            refcount: b.refcount,
+            valcount: b.valcount,
+            range: (b.ranged != 0).then_some(Range {
+                minimum: b.minimum,
+                maximum: b.maximum,
+                minword: b.minword,
+                maxword: b.maxword,
+            }),
+            firstref: 0,
+            firstval: 0,
+            reserved: b.reserved,
+            excess: b.excess,
+        }
     }
 }
 
-pub fn written_face(w: Written) -> MdfWritten
-    ensures { result ≡ written_face w }
-{
-    match w {
-        Written::Bytes(n) => MdfWritten {
-            refusal: 0,
-            length: n as u64,
-        },
-        Written::Unwritten(r) => MdfWritten {
-            refusal: r.number() as u32,
-            length: 0,
-        },
+impl From<Result<usize, Refusal>> for MdfWritten {
+    ghost from_gives = { λ w m. m ≡ written_face w };
+
+    fn from(w: Result<usize, Refusal>) -> MdfWritten {
+        match w {
+            Ok(n) => MdfWritten {
+                refusal: 0,
+                length: n as u64,
+            },
+            Err(r) => MdfWritten {
+                refusal: u32::from(r.number()),
+                length: 0,
+            },
+        }
     }
 }

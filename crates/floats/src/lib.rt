@@ -1,61 +1,47 @@
 // f64 and its 64 bits, both ways and for every pattern; whole numbers rounded to f64, by its bits and with no float operation.
 // Carries over the integer half of `extract_numeric` in linear.rs and the crate's uses of `f64::from_bits` and `to_bits`.
 //
-// The language has one NaN and leaves `from_bits` and `to_bits` undefined there, so both functions test for it first. The bits that `from_u64` and
-// `from_i64` put together are no NaN's, and are read without a test.
+// The language has one NaN and leaves its own `from_bits` and `to_bits` undefined there, so both functions here test for it first. The bits that
+// `from_u64` and `from_i64` put together are no NaN's, and are read without a test.
 
 #![tactic(auto)]
 
-ghost use Rattle.std.specs.Prelude.{◌≡◌, pos, from_bits, to_bits, unsigned_abs};
+ghost use Rattle.std.specs.Prelude.{◌≡◌, pos, from_bits, to_bits};
 ghost use Rattle.std.specs.Float.{binary64};
 ghost use Rattle.std.specs.Float.Ieee.{of_int, nan_bits};
 ghost use Rattle.std.specs.Float.Ieee.Nearest.{closest};
 ghost use Rattle.floats.specs.Twos.{twos};
 ghost use Rattle.floats.specs.Kept.{kept_bits};
 
+use std::num::{f64_from_bits_with_nan, f64_to_bits_with_nan};
+
 // Whether 64 bits spell a NaN: those below the sign are above infinity's.
 pub fn is_nan_pattern(bits: u64) -> bool
     ensures { result ≡ nan_bits binary64 bits }
 {
-    if bits % 0x8000_0000_0000_0000 > 0x7ff0_0000_0000_0000 {
-        true
-    } else {
-        false
-    }
+    bits % 0x8000_0000_0000_0000 > 0x7ff0_0000_0000_0000
 }
 
 // The float that 64 bits spell. A NaN pattern, whichever it is, spells the one NaN.
 pub fn from_bits(bits: u64) -> f64
     ensures { result ≡ from_bits binary64 bits }
 {
-    if is_nan_pattern(bits) {
-        0.0 / 0.0
-    } else {
-        f64::from_bits(bits)
-    }
+    f64_from_bits_with_nan(bits)
 }
 
 // The 64 bits of a float. A NaN reads back as 0x7ff8_0000_0000_0000.
 pub fn to_bits(x: f64) -> u64
     ensures { result ≡ to_bits binary64 x }
 {
-    if x != x {
-        0x7ff8_0000_0000_0000
-    } else {
-        f64::to_bits(x)
-    }
+    f64_to_bits_with_nan(x)
 }
 
 // The bits to write for a float that was read from `word`: its own, and of a NaN those of `word` if they spell one.
 pub fn kept_bits(x: f64, word: u64) -> u64
     ensures { result ≡ kept_bits x word }
 {
-    if x != x {
-        if is_nan_pattern(word) {
-            word
-        } else {
-            to_bits(x)
-        }
+    if x.is_nan() && is_nan_pattern(word) {
+        word
     } else {
         to_bits(x)
     }
@@ -85,19 +71,8 @@ fn nearest_bits(n: u64) -> u64
     if n == 0 {
         return 0;
     }
-    let zeros = u64::leading_zeros(n);
+    let zeros = n.leading_zeros();
     (1085 - (zeros as u64)) * 0x0010_0000_0000_0000 + rounded(n << zeros)
-}
-
-// The size of n, without its sign. That of the most negative number is no i64, so the last 1 is added behind the cast.
-fn size(n: i64) -> u64
-    ensures { result ≡ unsigned_abs n }
-{
-    if n >= 0 {
-        n as u64
-    } else {
-        ((0 - (n + 1)) as u64) + 1
-    }
 }
 
 // The f64 nearest to n, a tie going to the even one.
@@ -111,7 +86,7 @@ pub fn from_u64(n: u64) -> f64
 pub fn from_i64(n: i64) -> f64
     ensures { result ≡ of_int binary64 n }
 {
-    let below_sign = nearest_bits(size(n));
+    let below_sign = nearest_bits(n.unsigned_abs());
     if n >= 0 {
         f64::from_bits(below_sign)
     } else {
@@ -123,9 +98,5 @@ pub fn from_i64(n: i64) -> f64
 pub fn bits_of_i64(n: i64) -> u64
     ensures { result ≡ twos n }
 {
-    if n >= 0 {
-        size(n)
-    } else {
-        18446744073709551615 - (size(n) - 1)
-    }
+    n.cast_unsigned()
 }

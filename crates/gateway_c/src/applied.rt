@@ -5,7 +5,9 @@ ghost use Rattle.steps.specs.Mode.{standard};
 ghost use Rattle.conversion.specs.Entry.{applying};
 ghost use Rattle.faces.specs.Applied.{face, call_face};
 
+use conversion::logic::apply;
 use faces::applied::MdfApplied;
+use rules::number::Value;
 
 #[unsafe(no_mangle)]
 pub extern "C" fn mdf_apply_unsigned(
@@ -17,7 +19,7 @@ pub extern "C" fn mdf_apply_unsigned(
 ) -> MdfApplied
     ensures { face result out.new ≡ call_face (applying standard image.now address limit (Unsigned value) [] out.old) }
 {
-    gateway::applied::mdf_apply_unsigned(image, address, limit, value, out)
+    MdfApplied::from(apply(image, address, limit, Value::Unsigned(value), b"", out))
 }
 
 #[unsafe(no_mangle)]
@@ -30,7 +32,7 @@ pub extern "C" fn mdf_apply_signed(
 ) -> MdfApplied
     ensures { face result out.new ≡ call_face (applying standard image.now address limit (Signed value) [] out.old) }
 {
-    gateway::applied::mdf_apply_signed(image, address, limit, value, out)
+    MdfApplied::from(apply(image, address, limit, Value::Signed(value), b"", out))
 }
 
 #[unsafe(no_mangle)]
@@ -43,7 +45,7 @@ pub extern "C" fn mdf_apply_float(
 ) -> MdfApplied
     ensures { face result out.new ≡ call_face (applying standard image.now address limit (Float value) [] out.old) }
 {
-    gateway::applied::mdf_apply_float(image, address, limit, value, out)
+    MdfApplied::from(apply(image, address, limit, Value::Float(value), b"", out))
 }
 
 #[unsafe(no_mangle)]
@@ -56,7 +58,7 @@ pub extern "C" fn mdf_apply_text(
 ) -> MdfApplied
     ensures { face result out.new ≡ call_face (applying standard image.now address limit Text text.now out.old) }
 {
-    gateway::applied::mdf_apply_text(image, address, limit, text, out)
+    MdfApplied::from(apply(image, address, limit, Value::Text, text, out))
 }
 
 #[unsafe(no_mangle)]
@@ -68,5 +70,5 @@ pub extern "C" fn mdf_apply_other(
 ) -> MdfApplied
     ensures { face result out.new ≡ call_face (applying standard image.now address limit Other [] out.old) }
 {
-    gateway::applied::mdf_apply_other(image, address, limit, out)
+    MdfApplied::from(apply(image, address, limit, Value::Other, b"", out))
 }

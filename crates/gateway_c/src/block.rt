@@ -10,12 +10,12 @@ use faces::block::MdfParsed;
 pub extern "C" fn mdf_parse(image: &[u8], address: u64) -> MdfParsed
     ensures { result ≡ parsed_face (parsed image.now address) }
 {
-    gateway::block::mdf_parse(image, address)
+    MdfParsed::from(padding::parse(image, address, false))
 }
 
 #[unsafe(no_mangle)]
 pub extern "C" fn mdf_parse_kept(image: &[u8], address: u64) -> MdfParsed
     ensures { result ≡ parsed_face (parsed_in true image.now address) }
 {
-    gateway::block::mdf_parse_kept(image, address)
+    MdfParsed::from(padding::parse(image, address, true))
 }

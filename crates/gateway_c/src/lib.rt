@@ -1,5 +1,5 @@
-// The static library that C and Rust link: each function has the name that C calls, calls the function of that name in `gateway`, and states its
-// clauses again; `mdf_invert` stands in `invert_c`. See each module.
+// The static library that C and Rust link: each function has the name that C calls; `mdf_invert` stands in `invert_c`. Each has a name of its own,
+// since C has no generics. See each module.
 
 #![tactic(auto)]
 

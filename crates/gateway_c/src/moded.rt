@@ -5,6 +5,8 @@ ghost use Rattle.modes.specs.Asked.{applying_at};
 ghost use Rattle.faces.specs.Applied.{face, call_face};
 
 use faces::applied::{MdfApplied, MdfMode};
+use modes::apply_at;
+use rules::number::Value;
 
 #[unsafe(no_mangle)]
 pub extern "C" fn mdf_apply_mode_unsigned(
@@ -18,7 +20,16 @@ pub extern "C" fn mdf_apply_mode_unsigned(
     ensures { face result out.new
         ≡ call_face (applying_at mode.edition mode.width image.now address limit (Unsigned value) [] out.old) }
 {
-    gateway::moded::mdf_apply_mode_unsigned(image, address, limit, mode, value, out)
+    MdfApplied::from(apply_at(
+        mode.edition,
+        mode.width,
+        image,
+        address,
+        limit,
+        Value::Unsigned(value),
+        b"",
+        out,
+    ))
 }
 
 #[unsafe(no_mangle)]
@@ -33,7 +44,16 @@ pub extern "C" fn mdf_apply_mode_signed(
     ensures { face result out.new
         ≡ call_face (applying_at mode.edition mode.width image.now address limit (Signed value) [] out.old) }
 {
-    gateway::moded::mdf_apply_mode_signed(image, address, limit, mode, value, out)
+    MdfApplied::from(apply_at(
+        mode.edition,
+        mode.width,
+        image,
+        address,
+        limit,
+        Value::Signed(value),
+        b"",
+        out,
+    ))
 }
 
 #[unsafe(no_mangle)]
@@ -48,7 +68,16 @@ pub extern "C" fn mdf_apply_mode_float(
     ensures { face result out.new
         ≡ call_face (applying_at mode.edition mode.width image.now address limit (Float value) [] out.old) }
 {
-    gateway::moded::mdf_apply_mode_float(image, address, limit, mode, value, out)
+    MdfApplied::from(apply_at(
+        mode.edition,
+        mode.width,
+        image,
+        address,
+        limit,
+        Value::Float(value),
+        b"",
+        out,
+    ))
 }
 
 #[unsafe(no_mangle)]
@@ -63,7 +92,16 @@ pub extern "C" fn mdf_apply_mode_text(
     ensures { face result out.new
         ≡ call_face (applying_at mode.edition mode.width image.now address limit Text text.now out.old) }
 {
-    gateway::moded::mdf_apply_mode_text(image, address, limit, mode, text, out)
+    MdfApplied::from(apply_at(
+        mode.edition,
+        mode.width,
+        image,
+        address,
+        limit,
+        Value::Text,
+        text,
+        out,
+    ))
 }
 
 #[unsafe(no_mangle)]
@@ -77,5 +115,14 @@ pub extern "C" fn mdf_apply_mode_other(
     ensures { face result out.new
         ≡ call_face (applying_at mode.edition mode.width image.now address limit Other [] out.old) }
 {
-    gateway::moded::mdf_apply_mode_other(image, address, limit, mode, out)
+    MdfApplied::from(apply_at(
+        mode.edition,
+        mode.width,
+        image,
+        address,
+        limit,
+        Value::Other,
+        b"",
+        out,
+    ))
 }

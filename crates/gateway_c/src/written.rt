@@ -3,8 +3,10 @@ ghost use Rattle.std.specs.Prelude.{◌≡◌};
 ghost use Rattle.writer.specs.Write.{writing};
 ghost use Rattle.faces.specs.Block.{record_of, face_wrote, writing_face};
 
+use blocks::Block;
 use faces::block::MdfBlock;
 use faces::written::MdfWritten;
+use writer::write_words;
 
 #[unsafe(no_mangle)]
 pub extern "C" fn mdf_write(
@@ -15,5 +17,5 @@ pub extern "C" fn mdf_write(
 ) -> MdfWritten
     ensures { face_wrote result out.new ≡ writing_face (writing (record_of block) refs.now words.now out.old) }
 {
-    gateway::written::mdf_write(block, refs, words, out)
+    MdfWritten::from(write_words(Block::from(block), refs, words, out))
 }

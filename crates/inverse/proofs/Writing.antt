@@ -1,60 +1,40 @@
 -- The block that is made, put part by part. Assumes nothing.
+use Rattle.std.specs.Prelude.{Err, Ok, Result}
 use mathlib.Core.Path.{◌≡◌, refl, sym, ap, subst, ◌∙◌}
 use mathlib.Core.Bool.{false}
-use mathlib.Core.List.{List, ◌∷◌, ◌++◌, append-nil}
+use mathlib.Core.List.{List, [], ◌∷◌, ◌++◌, append-nil}
+use native.Mathlib.Numerals.{add-one}
 use Prim.Native.Nat.{ℕ, zero, suc, ◌+◌, ◌-◌, ◌*◌, ◌≤◌, ◌<◌}
 use native.Mathlib.Omega.{arith}
 use borrow.Author.Tests.{eq-eqb, ne_eqb}
 use lib.ListN.{length, get_or, take}
 use Rattle.words.specs.Words.{word64, words, bytes8, put, links}
-use Rattle.words.proofs.Laws.{two_puts, Putting, putting_none, putting_more, putting_done}
-use Rattle.words.proofs.Slices.{length_words}
+use Rattle.words.proofs.Laws.{two_puts, put_one_more}
+use Rattle.words.proofs.Slices.{length_words, words_last}
 use Rattle.common.specs.Header.{conversion_id, header_bytes}
 use Rattle.common.specs.Written.{write_call}
 use Rattle.common.specs.declared.refusal.Refusal.TheVariants.{WrongType}
-use Rattle.common.specs.declared.written.Written.TheVariants.{Unwritten}
 use Rattle.blocks.specs.Block.{ref_count, fields_place, fields_at, val_count, values_place, block_end, block_at, parsed}
 use Rattle.blocks.specs.Place.{references, value_words}
 use Rattle.blocks.specs.View.{view_of}
 use Rattle.blocks.specs.declared.view.View.{View}
 use Rattle.blocks.specs.declared.Block.{Block}
-use Rattle.blocks.specs.declared.Parsed.TheVariants.{Whole}
 use Rattle.blocks.proofs.Opening.{parsed_whole}
 use Rattle.writer.specs.Write.{write_size, fixed_bytes, field_bytes, front_bytes, block_bytes}
 use Rattle.writer.proofs.Writing.{front_parts, length_front, length_block}
 use Rattle.keys.specs.Keys.{first_fault, KeysIn}
 use Rattle.inverse.specs.Invert.{inverse_of, inverse_bytes, unless_faulty, inverted, KeyPlaces}
-use Rattle.keys.specs.declared.Fault.{Fault}
+use Rattle.common.specs.declared.refusal.Refusal.{Refusal}
 
--- the i-th of the words from a place on
-pub word_of : (s : List ℕ) (first n i : ℕ) → i < n → get_or (words s first n) i 0 ≡ word64 s (first + 8 * i)
-unfolding words
-word_of s first zero i h = absurd (omega arith)
-word_of s first (suc n) zero h = let e : first ≡ first + 8 * 0 = omega arith in ap (word64 s) e
-word_of s first (suc n) (suc i) h =
-    let e : first + 8 + 8 * i ≡ first + 8 * suc i = omega arith in
-    word_of s (first + 8) n i (omega arith) ∙ ap (word64 s) e
-
--- ---- the loop that puts words of an image one behind the other
-module _ (out₀ : List ℕ) (at : ℕ) (s : List ℕ) (first n : ℕ) where
-  abbrev pub PuttingWords : ℕ → List ℕ → Type 0
-  PuttingWords i out = Putting out₀ at (words s first n) i out (at + 8 * i)
-
-  pub words_none : PuttingWords 0 out₀
-  words_none =
-      let e : at ≡ at + 8 * 0 = omega arith in
-      subst (Putting out₀ at (words s first n) 0 out₀) e (putting_none out₀ at (words s first n))
-
-  pub words_more : (i w : ℕ) (out next : List ℕ) → PuttingWords i out → i < n → w ≡ word64 s (first + 8 * i) → next ≡ put out (at + 8 * i) (bytes8 w)
-      → PuttingWords (i + 1) next
-  words_more i w out next h less e f =
-      let place : at + 8 * i + 8 ≡ at + 8 * (i + 1) = omega arith in
-      let same : w ≡ get_or (words s first n) i 0 = e ∙ sym (word_of s first n i less) in
-      subst (Putting out₀ at (words s first n) (i + 1) next) place
-      (putting_more h (omega (arith, length_words s first n, less)) (f ∙ ap (λ (v : ℕ). put out (at + 8 * i) (bytes8 v)) same))
-
-  pub words_done : (i : ℕ) (out : List ℕ) → PuttingWords i out → n ≤ i → out ≡ put out₀ at (links (words s first n))
-  words_done i out h all = putting_done h (omega (arith, length_words s first n, all))
+-- one word of an image more
+pub put_word_more : (s : List ℕ) (first i : ℕ) (out : List ℕ) (at : ℕ)
+    → put (put out at (links (words s first i))) (at + 8 * i) (bytes8 (word64 s (first + 8 * i))) ≡ put out at (links (words s first (i + 1)))
+put_word_more s first i out at =
+    let ws = words s first i in
+    let more : ws ++ word64 s (first + 8 * i) ∷ [] ≡ words s first (i + 1) = sym (words_last s first i) ∙ ap (words s first) (sym (add-one i)) in
+    ap (λ (n : ℕ). put (put out at (links ws)) (at + 8 * n) (bytes8 (word64 s (first + 8 * i)))) (sym (length_words s first i))
+    ∙ put_one_more ws (word64 s (first + 8 * i)) out at
+    ∙ ap (λ (l : List ℕ). put out at (links l)) more
 
 -- ---- the parts of the block, each at its place
 module _ (b : Block) (refs values : List ℕ) (n : ℕ) (many : length refs ≡ n) (same : length values ≡ n) where
@@ -90,7 +70,7 @@ take_words s p zero m h = refl
 take_words s p (suc n) zero h = absurd (omega arith)
 take_words s p (suc n) (suc m) h = ap (λ (ws : List ℕ). word64 s p ∷ ws) (take_words s (p + 8) n m (omega arith))
 
-module _ (img : List ℕ) (a : ℕ) (b : Block) (whole : parsed img a ≡ Whole b) where
+module _ (img : List ℕ) (a : ℕ) (b : Block) (whole : parsed img a ≡ Ok b) where
   pub keys_in : KeysIn img (view_of b) b.valcount
   unfolding block_end val_count block_at fields_at
   keys_in =
@@ -116,15 +96,15 @@ module _ (img : List ℕ) (a : ℕ) (b : Block) (whole : parsed img a ≡ Whole 
 
 -- ---- what is answered after each test
 module _ (img : List ℕ) (a : ℕ) (b : Block) (out : List ℕ) where
-  pub other_type : (b.kind ≡ 7 → ⊥) → inverted img a b out ≡ write_call (Unwritten (WrongType a)) out
+  pub other_type : (b.kind ≡ 7 → ⊥) → inverted img a b out ≡ write_call (Err (WrongType a)) out
   unfolding inverted
   other_type h = rw (ne_eqb b.kind 7 h)
 
-  pub of_fault : b.kind ≡ 7 → (f : Fault) → first_fault img (view_of b) 0 b.valcount ≡ f → inverted img a b out ≡ unless_faulty f (inverse_bytes img b) out
+  pub of_fault : b.kind ≡ 7 → (f : Result Unit Refusal) → first_fault img (view_of b) 0 b.valcount ≡ f → inverted img a b out ≡ unless_faulty f (inverse_bytes img b) out
   unfolding inverted
   of_fault h f e = rw (eq-eqb b.kind 7 h, e)
 
 -- the first fault of a block, from that of its view
-pub fault_seen : (img : List ℕ) (b : Block) (v : View) (r f : Fault) → v ≡ view_of b → r ≡ first_fault img v 0 v.valcount → r ≡ f
+pub fault_seen : (img : List ℕ) (b : Block) (v : View) (r f : Result Unit Refusal) → v ≡ view_of b → r ≡ first_fault img v 0 v.valcount → r ≡ f
     → first_fault img (view_of b) 0 b.valcount ≡ f
 fault_seen img b v r f p q e = ap (λ (w : View). first_fault img w 0 w.valcount) (sym p) ∙ sym q ∙ e

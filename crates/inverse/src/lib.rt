@@ -9,32 +9,29 @@ ghost use Rattle.std.specs.Prelude.{◌≡◌, ◌+◌, ◌-◌, ◌*◌, ◌≤
 ghost use Rattle.words.specs.Words.{put, links, words as words_at};
 ghost use Rattle.common.specs.Written.{write_call, holding};
 ghost use Rattle.blocks.specs.Block.{parsed};
-ghost use Rattle.blocks.specs.declared.Parsed.TheVariants.{Whole};
 ghost use Rattle.writer.specs.Write.{block_bytes};
 ghost use Rattle.inverse.specs.Invert.{inverse_of, inverted, inverting, KeyPlaces};
 
+use blocks::Block;
 use blocks::view::View;
-use blocks::{Block, Parsed};
-use common::header::{Header, put_header};
+use common::header::Header;
 use common::refusal::Refusal;
-use common::written::Written;
-use keys::{Fault, first_fault};
+use keys::first_fault;
 use writer::{put_fields, put_fixed};
 
-// The types of the block that is read and of the block that is made.
+// The types of the block that is read and of the block that is made, by their numbers, as the record and the definitions have them.
 const VALUE_TO_TEXT: u8 = 7;
 
 const TEXT_TO_VALUE: u8 = 9;
 
-// As many words as `count` says, from the place `first` of the image on, one behind the other from the place `at` of the output on.
+// As many words as `count` says, from the place `first` of the image on, one behind the other from the place `at` of the output on. Not by
+// `copy_from_slice`: LLVM makes it a call of the C library's memmove, and the archive calls no library.
 fn put_words(out: &mut [u8], at: usize, image: &[u8], first: usize, count: usize)
     requires { (first + 8 * count ≤ length_of image.now) × (at + 8 * count ≤ length_of out.old) }
     ensures { out.new ≡ put out.old at (links (words_at image.now first count)) }
 {
-    let mut i = 0;
-    while i < count {
+    for i in 0..count {
         words::put_u64(out, at + 8 * i, words::u64_at(image, first + 8 * i));
-        i += 1;
     }
 }
 
@@ -55,9 +52,13 @@ fn put_inverse(b: Block, image: &[u8], out: &mut [u8])
     let made = inverse_of(b);
     let n = b.valcount as usize;
     let place = 56 + 8 * n;
-    let size = (place + 8 + 8 * n) as u64;
-    let links = Block::FIXED + (n as u64);
-    put_header(out, Header::CONVERSION, 0, size, links);
+    let header = Header {
+        id: Header::CONVERSION,
+        reserved: 0,
+        length: (place + 8 + 8 * n) as u64,
+        links: Block::FIXED + (n as u64),
+    };
+    header.put(out);
     put_fixed(made, out);
     put_words(out, 56, image, b.firstref as usize, n);
     put_fields(made, out, place, b.valcount);
@@ -65,30 +66,28 @@ fn put_inverse(b: Block, image: &[u8], out: &mut [u8])
 }
 
 // The same where it fits.
-fn write_inverse(b: Block, image: &[u8], out: &mut [u8]) -> Written
+fn write_inverse(b: Block, image: &[u8], out: &mut [u8]) -> Result<usize, Refusal>
     requires { KeyPlaces b (length_of image.now) (64 + 16 * b.valcount) }
     ensures { write_call result out.new ≡ holding (block_bytes (inverse_of b) (words_at image.now b.firstref b.valcount) (words_at image.now b.firstval b.valcount)) out.old }
 {
     let size = 64 + 16 * (b.valcount as usize);
     if out.len() < size {
-        return Written::Unwritten(Refusal::Room);
+        return Err(Refusal::Room);
     }
     put_inverse(b, image, out);
-    Written::Bytes(size)
+    Ok(size)
 }
 
 // The inverse of a block that was parsed at an address.
-fn invert_block(b: Block, image: &[u8], address: u64, out: &mut [u8]) -> Written
-    requires { parsed image.now address ≡ Whole b }
+fn invert_block(b: Block, image: &[u8], address: u64, out: &mut [u8]) -> Result<usize, Refusal>
+    requires { parsed image.now address ≡ Ok b }
     ensures { write_call result out.new ≡ inverted image.now address b out.old }
 {
     if b.kind != VALUE_TO_TEXT {
-        return Written::Unwritten(Refusal::WrongType(address));
+        return Err(Refusal::WrongType(address));
     }
-    match first_fault(image, View::of(b)) {
-        Fault::Faulty(r) => Written::Unwritten(r),
-        Fault::Faultless => write_inverse(b, image, out),
-    }
+    first_fault(image, View::from(b))?;
+    write_inverse(b, image, out)
 }
 
 // The text to value block that matches the value to text block at an address of an image, from byte 0 of `out` on. Behind the end of the image it turns
@@ -97,11 +96,8 @@ fn invert_block(b: Block, image: &[u8], address: u64, out: &mut [u8]) -> Written
 // Work: of n keys at most n * n / 2 comparisons of keys, and what looking for a repeated text takes (crate repeats): as many short steps, and for each 255
 // keys at most twice the length of each text behind them; then 16 bytes a key are written. The worst image has 65,535 keys whose texts share long
 // beginnings; docs/BENCHMARKS.md has what it costs, at two sizes.
-pub fn invert(image: &[u8], address: u64, out: &mut [u8]) -> Written
+pub fn invert(image: &[u8], address: u64, out: &mut [u8]) -> Result<usize, Refusal>
     ensures { write_call result out.new ≡ inverting image.now address out.old }
 {
-    match Block::parse(image, address) {
-        Parsed::Whole(b) => invert_block(b, image, address, out),
-        Parsed::Refused(r) => Written::Unwritten(r),
-    }
+    invert_block(Block::parse(image, address)?, image, address, out)
 }

@@ -8,10 +8,11 @@ ghost use Rattle.inverse.specs.Invert.{inverting};
 ghost use Rattle.faces.specs.Inverted.{face_inverted, inverting_face};
 
 use faces::inverted::MdfInverted;
+use inverse::invert;
 
 #[unsafe(no_mangle)]
 pub extern "C" fn mdf_invert(image: &[u8], address: u64, out: &mut [u8]) -> MdfInverted
     ensures { face_inverted result out.new ≡ inverting_face (inverting image.now address out.old) }
 {
-    gateway::inverted::mdf_invert(image, address, out)
+    MdfInverted::from(invert(image, address, out))
 }

@@ -1,4 +1,5 @@
 -- A text that a reference leads to lies in the image; the search for a text, key by key. Assumes nothing.
+use Rattle.std.specs.Prelude.{None, Option, Some}
 use mathlib.Core.Path.{◌≡◌, refl, ◌∙◌}
 use mathlib.Core.Bool.{Bool, true, false, cond}
 use mathlib.Core.List.{List}
@@ -8,16 +9,13 @@ use lib.Dec.{eqb}
 use Rattle.common.specs.Header.{inside, is_conversion}
 use Rattle.common.proofs.Headers.{inside_fits}
 use Rattle.common.specs.Text.{run_of, TextIn}
-use Rattle.common.specs.declared.text.Text.{Text}
-use Rattle.common.specs.declared.text.Text.TheVariants.{Part, NoText}
-use Rattle.common.specs.declared.refusal.Word.{Word}
-use Rattle.common.specs.declared.refusal.Word.TheVariants.{Bits, NoWord}
 use Rattle.common.proofs.Texts.{run_within}
 use Rattle.blocks.specs.View.{reference_in}
 use Rattle.blocks.specs.declared.view.View.{View}
 use Rattle.leads.specs.Lead.{nested_at, lead_of, lead_at, by_text, by_link, LeadIn}
 use Rattle.leads.specs.Keys.{is_key, first_text}
 use Rattle.leads.specs.declared.lead.Lead.TheVariants.{Nested, Nil, Elsewhere}
+use Rattle.common.specs.declared.text.Span.{Span}
 
 nested_inside : (img : List ℕ) (link : ℕ) → LeadIn img (nested_at img link)
 unfolding nested_at
@@ -32,18 +30,18 @@ lead_inside : (img : List ℕ) (link : ℕ) → LeadIn img (lead_of img link)
 unfolding lead_of
 lead_inside img link = go (eqb link 0) (run_of img link) (run_within img link)
   where
-    go : (z : Bool) (t : Text) → TextIn img t → LeadIn img (cond z Nil (by_text t (nested_at img link)))
+    go : (z : Bool) (t : Option Span) → TextIn img t → LeadIn img (cond z Nil (by_text t (nested_at img link)))
     go true t h = tt
-    go false (Part from to) h = h
-    go false NoText h = nested_inside img link
+    go false (Some run) h = h
+    go false None h = nested_inside img link
 
 pub lead_at_inside : (img : List ℕ) (b : View) (i : ℕ) → LeadIn img (lead_at img b i)
 unfolding lead_at
 lead_at_inside img b i = go (reference_in img b i)
   where
-    go : (w : Word) → LeadIn img (by_link img w)
-    go (Bits link) = lead_inside img link
-    go NoWord = tt
+    go : (w : Option ℕ) → LeadIn img (by_link img w)
+    go (Some link) = lead_inside img link
+    go None = tt
 
 -- ---- the search, with n keys left from the j-th on
 module _ (img : List ℕ) (b : View) (t : List ℕ) (stride : ℕ) where

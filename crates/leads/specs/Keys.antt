@@ -14,7 +14,7 @@ same_bytes (x ∷ xs) (y ∷ ys) = cond (eqb x y) (same_bytes xs ys) false
 
 -- a reference leads to a text that equals t
 abbrev pub is_key : List ℕ → List ℕ → Lead → Bool
-is_key img t (Words from to) = same_bytes (text_bytes img from to) t
+is_key img t (Words run) = same_bytes (text_bytes img run.from run.to) t
 is_key img t (Nested a) = false
 is_key img t Nil = false
 is_key img t Elsewhere = false

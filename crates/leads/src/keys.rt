@@ -7,40 +7,33 @@ ghost use Rattle.leads.specs.Lead.{lead_at};
 
 use crate::lead::{Lead, lead_at};
 use blocks::view::View;
+use common::text::Span;
 
 // Whether a text that runs up to `to` ends at p.
 fn is_end(image: &[u8], p: usize, to: usize) -> bool
     requires { to ≤ length image.now }
     ensures { result ≡ same_bytes (text_bytes image.now p to) [] }
 {
-    if p < to { image[p] == 0 } else { true }
+    to <= p || image[p] == 0
 }
 
-// Whether the text that runs from `from` up to `to` is `text`. It is looked at up to the first difference, and no further than one byte past the
-// end of `text`.
-fn is_same(image: &[u8], from: usize, to: usize, text: &[u8]) -> bool
-    requires { PartIn image.now from to }
-    ensures { result ≡ same_bytes (text_bytes image.now from to) text.now }
+// Whether the text that may run there is `text`. It is looked at up to the first difference, and no further than one byte past the
+// end of `text`: the slices' `starts_with` and `==` would look past the first difference.
+fn is_same(image: &[u8], run: Span, text: &[u8]) -> bool
+    requires { PartIn image.now run.from run.to }
+    ensures { result ≡ same_bytes (text_bytes image.now run.from run.to) text.now }
 {
-    if to - from < text.len() {
+    if run.to - run.from < text.len() {
         return false;
     }
-    let mut i = 0;
-    let mut p = from;
-    while i < text.len() {
-        let b = image[p];
-        if b != text[i] {
-            return false;
-        }
+    for (i, c) in text.iter().enumerate() {
+        let b = image[run.from + i];
         // A zero byte ends the text, and is no part of it.
-        if b == 0 {
+        if b != *c || b == 0 {
             return false;
         }
-        i += 1;
-        p += 1;
     }
-    let ended = is_end(image, p, to);
-    ended
+    is_end(image, run.from + text.len(), run.to)
 }
 
 // Whether the i-th reference leads to a text that equals `text`.
@@ -48,26 +41,23 @@ fn is_key(image: &[u8], b: View, i: u64, text: &[u8]) -> bool
     ensures { result ≡ is_key image.now text.now (lead_at image.now b i) }
 {
     match lead_at(image, b, i) {
-        Lead::Words(from, to) => is_same(image, from, to, text),
-        Lead::Nested(_) => false,
-        Lead::Nil => false,
-        Lead::Elsewhere => false,
+        Lead::Words(run) => is_same(image, run, text),
+        Lead::Nested(_) | Lead::Nil | Lead::Elsewhere => false,
     }
 }
 
-// The first of n keys, at every stride-th reference, that equals `text`; n if there is none.
+// The first of n keys, at every stride-th reference, that equals `text`; n, and not None, if there is none: that is the index of what is answered then
+// (`first_text`).
 fn find_text(image: &[u8], b: View, text: &[u8], stride: u64, n: u64) -> u64
     requires { (stride ≤ 2) × (n ≤ length image.now) }
     ensures { result ≡ first_text image.now b text.now stride 0 n }
 {
-    let mut j = 0;
-    while j < n {
+    for j in 0..n {
         if is_key(image, b, stride * j, text) {
             return j;
         }
-        j += 1;
     }
-    j
+    n
 }
 
 // Text to value: the index of the value, which may not be there.
@@ -81,7 +71,7 @@ pub fn value_key(image: &[u8], b: View, text: &[u8]) -> u64
 fn pairs_of(refs: u64) -> u64
     ensures { (result ≡ (refs - 1) / 2) × (result ≤ refs) }
 {
-    if refs == 0 { 0 } else { (refs - 1) / 2 }
+    refs.saturating_sub(1) / 2
 }
 
 // The reference that holds the answer: behind the key, or behind all pairs.

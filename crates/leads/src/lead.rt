@@ -5,13 +5,12 @@ ghost use Rattle.leads.specs.Lead.{lead_of, lead_at, nested_at};
 
 use blocks::view::View;
 use common::header::Header;
-use common::refusal::Word;
-use common::text::{Text, run_of};
+use common::text::{Span, run_of};
 
 #[derive(Clone, Copy)]
 pub enum Lead {
     // A text, by where it may run in the image; it ends at the first zero byte there.
-    Words(usize, usize),
+    Words(Span),
     // The address of a ##CC block.
     Nested(u64),
     // NIL, or no such reference.
@@ -22,12 +21,11 @@ pub enum Lead {
 fn nested_at(image: &[u8], link: u64) -> Lead
     ensures { result ≡ nested_at image.now link }
 {
-    if Header::is_inside(image, link) {
-        if Header::is_conversion(image, link as usize) {
-            return Lead::Nested(link);
-        }
+    if Header::is_inside(image, link) && Header::is_conversion(image, link as usize) {
+        Lead::Nested(link)
+    } else {
+        Lead::Elsewhere
     }
-    Lead::Elsewhere
 }
 
 pub fn lead_of(image: &[u8], link: u64) -> Lead
@@ -37,8 +35,8 @@ pub fn lead_of(image: &[u8], link: u64) -> Lead
         return Lead::Nil;
     }
     match run_of(image, link) {
-        Text::Part(from, to) => Lead::Words(from, to),
-        Text::NoText => nested_at(image, link),
+        Some(run) => Lead::Words(run),
+        None => nested_at(image, link),
     }
 }
 
@@ -47,7 +45,7 @@ pub fn lead_at(image: &[u8], b: View, i: u64) -> Lead
     ensures { result ≡ lead_at image.now b i }
 {
     match b.reference(image, i) {
-        Word::Bits(link) => lead_of(image, link),
-        Word::NoWord => Lead::Nil,
+        Some(link) => lead_of(image, link),
+        None => Lead::Nil,
     }
 }

@@ -1,56 +1,61 @@
 // Numbers and bytes put into memory. What does not fit is left out.
-use crate::parts::{byte, room};
-use crate::read::number;
+ghost use Rattle.std.specs.Prelude.{◌≡◌, ◌+◌, ◌≤◌, length};
 
-// The place behind the last number that was put, and the place in the command behind the last one that was read.
-#[derive(Clone, Copy)]
-pub struct Listed {
-    pub at: usize,
-    pub next: usize,
+use crate::parts::room;
+use crate::read::{Form, Operands};
+
+// What a number takes of the memory.
+#[derive(Clone, Copy, Debug, PartialEq, Eq)]
+pub enum Unit {
+    // Its lowest byte.
+    Byte,
+    // 8 bytes, the lowest first.
+    Word,
 }
 
-// A number where it fits, and the place behind it: by the form b its lowest byte, by all others a word of 8 bytes, lowest byte first.
-pub fn put(mem: &mut [u8], at: usize, v: u64, form: u8) -> usize {
-    if at < mem.len() {
-        if form == b'b' {
-            mem[at] = (v % 256) as u8;
-            return at + 1;
+// Puts a number where it fits, and tells the place behind it.
+pub fn put(mem: &mut [u8], at: usize, number: u64, unit: Unit) -> usize
+    ensures behind { (at ≤ result) × (result ≤ at + 8) }
+    ensures length { length mem.new ≡ length mem.old }
+{
+    if mem.len() <= at {
+        return at;
+    }
+    match unit {
+        Unit::Byte => {
+            mem[at] = (number & 0xff) as u8;
+            at + 1
         }
-        if 8 <= mem.len() - at {
-            words::put_u64(mem, at, v);
-            return at + 8;
+        Unit::Word if 8 <= mem.len() - at => {
+            words::put_u64(mem, at, number);
+            at + 8
         }
+        Unit::Word => at,
+    }
+}
+
+// Puts the numbers that stand next in the command, and tells the place behind the last.
+pub fn list(operands: &mut Operands, form: Form, unit: Unit, mem: &mut [u8], start: usize) -> usize
+    ensures behind { start ≤ result }
+    ensures length { length mem.new ≡ length mem.old }
+{
+    let mut at = start;
+    while let Some(number) = operands.number(form) {
+        at = put(mem, at, number, unit);
     }
     at
 }
 
-// Puts the numbers that stand in the command from the space at `from` on, in their form.
-pub fn list(line: &[u8], from: usize, form: u8, at: usize, mem: &mut [u8]) -> Listed {
-    let mut i = from;
-    let mut p = at;
-    while i < line.len() {
-        let n = number(line, i, form);
-        if n.next <= i {
-            break;
-        }
-        p = put(mem, p, n.value, form);
-        i = n.next;
-    }
-    Listed { at: p, next: i }
-}
-
 // Puts the byte at each place from `from` up to `to`.
-pub fn fill(mem: &mut [u8], from: usize, to: usize, v: u8) {
-    let s = room(mem, from, to);
-    for k in 0..s.len() {
-        s[k] = v;
-    }
+pub fn fill(mem: &mut [u8], from: usize, to: usize, byte: u8) {
+    room(mem, from, to).fill(byte);
 }
 
 // Puts the bytes from `from` on, and zeros behind them up to `to`.
 pub fn copy(mem: &mut [u8], from: usize, to: usize, bytes: &[u8]) {
-    let s = room(mem, from, to);
-    for k in 0..s.len() {
-        s[k] = byte(bytes, k);
+    let places = room(mem, from, to);
+    places.fill(0);
+    for (place, byte) in places.iter_mut().zip(bytes) {
+        *place = *byte;
     }
 }

@@ -1,12 +1,12 @@
-// What the programs read and write alike: parts of slices, the numbers and texts of commands, memory built from them, what a call is asked,
-// phrases, and floats in decimal.
+// What the programs read and write alike: parts of slices, the numbers and texts of commands, memory built from them, values and what a call is asked,
+// refusals, and floats in decimal.
 
 #![tactic(auto)]
 
 pub mod build;
 pub mod decimal;
 pub mod parts;
-pub mod phrase;
 pub mod read;
+pub mod refusal;
 pub mod request;
 pub mod value;

@@ -1,49 +1,25 @@
 // Parts of slices, and bytes and words found in them. Where a slice does not have the part, all of it is taken; a byte or a word that it
 // does not have is 0.
-ghost use Rattle.std.specs.Prelude.{◌≤◌, length};
 
-pub fn part(s: &[u8], from: usize, to: usize) -> &[u8] {
-    if from <= to {
-        if to <= s.len() {
-            return &s[from..to];
-        }
-    }
-    s
+pub fn part<T>(s: &[T], from: usize, to: usize) -> &[T] {
+    s.get(from..to).unwrap_or(s)
 }
 
+// Not by `get_mut`: a part that is lent and handed back on one path alone gets no proof.
 pub fn room(s: &mut [u8], from: usize, to: usize) -> &mut [u8] {
-    if from <= to {
-        if to <= s.len() {
-            return &mut s[from..to];
-        }
+    if from <= to && to <= s.len() {
+        return &mut s[from..to];
     }
     s
 }
 
 pub fn byte(s: &[u8], at: usize) -> u8 {
-    if at < s.len() { s[at] } else { 0 }
+    s.get(at).copied().unwrap_or(0)
 }
 
 pub fn word(s: &[u8], at: usize) -> u64 {
-    if at < s.len() {
-        if 8 <= s.len() - at {
-            return words::u64_at(s, at);
-        }
+    match s.get(at..) {
+        Some(rest) if 8 <= rest.len() => words::u64_at(rest, 0),
+        _ => 0,
     }
-    0
-}
-
-// The first place from `from` on that has the byte, or the end.
-pub fn find(s: &[u8], from: usize, byte: u8) -> usize
-    requires { from ≤ length s.now }
-    ensures { (from ≤ result) × (result ≤ length s.now) }
-{
-    let mut i = from;
-    while i < s.len() {
-        if s[i] == byte {
-            return i;
-        }
-        i += 1;
-    }
-    i
 }

@@ -1,200 +1,130 @@
 // The numbers and texts of a command, each behind one space.
 //
-// A number is decimal, hexadecimal behind 0x, or a byte behind '. Its form is a letter: s is a signed number, which may have a minus and is read
-// as its two's complement; d is a float, a whole number that may have a minus, or by 0x its 64 bits; all others are unsigned.
-use crate::parts::{byte, find, part};
+// A number is decimal, hexadecimal behind 0x, or a byte behind '. Hexadecimal digits are small letters, and their 64 bits stand for the number in
+// each form.
+ghost use Rattle.std.specs.Prelude.{◌≡◌, ◌≢◌, ◌+◌, ◌<◌, ◌≤◌, ◌↔◌, [], length, IfSome, IfOk, IsNone, IsOk, IsOkAnd};
 
-// A number and the place behind it. Where there is none, the place is the one where it was looked for.
-#[derive(Clone, Copy)]
-pub struct Found {
-    pub value: u64,
-    pub next: usize,
+// How a decimal number is read.
+#[derive(Clone, Copy, Debug, PartialEq, Eq)]
+pub enum Form {
+    Unsigned,
+    // May have a minus, and is read as its two's complement.
+    Signed,
+    // A whole number that may have a minus, read as the 64 bits of a float.
+    Float,
 }
 
-// The up to four numbers of a command, 0 where there are fewer, and whether nothing else stands in it.
+// Something else stands in a command than belongs there.
+#[derive(Clone, Copy, Debug)]
+pub struct NotUnderstood;
+
+// What is left to read of a command.
 #[derive(Clone, Copy)]
-pub struct Args {
-    pub a: u64,
-    pub b: u64,
-    pub c: u64,
-    pub d: u64,
-    pub is_all: bool,
+pub struct Operands<'a> {
+    pub rest: &'a [u8],
 }
 
-// The places of a text's bytes, and whether it is one.
-#[derive(Clone, Copy)]
-pub struct Quoted {
-    pub from: usize,
-    pub to: usize,
-    pub is_text: bool,
-}
-
-// A number as far as it is read. The base is 0 where it is none.
-#[derive(Clone, Copy)]
-struct Partial {
-    value: u64,
-    base: u64,
-}
-
-// 16 and more where the byte is no digit.
-fn digit(c: u8) -> u64 {
-    if c < 58 {
-        return std::num::wrapping_sub_u8(c, 48) as u64;
+impl<'a> Operands<'a> {
+    // The number that stands next. Where none does, nothing is read.
+    pub fn number(&mut self, form: Form) -> Option<u64>
+        ensures shorter { IfSome result (λ _. length self.new.rest.now < length self.old.rest.now) }
+        ensures unread { IsNone result → self.new.rest.now ≡ self.old.rest.now }
+    {
+        let [b' ', others @ ..] = self.rest else {
+            return None;
+        };
+        let end = others.iter().position(|b| *b == b' ');
+        let (number, rest) = others.split_at(end.unwrap_or(others.len()));
+        let value = spelled(number, form)?;
+        self.rest = rest;
+        Some(value)
     }
-    if c < 97 {
-        return 16;
-    }
-    (c - 87) as u64
-}
 
-// The number with one more byte read.
-fn more(n: Partial, c: u8) -> Partial {
-    let d = digit(c);
-    let base = n.base;
-    match base {
-        10 => {
-            if d < 10 {
-                if n.value <= (18446744073709551615 - d) / 10 {
-                    return Partial {
-                        value: 10 * n.value + d,
-                        base: 10,
-                    };
-                }
-            }
+    // The next `N` unsigned numbers, 0 where there are fewer.
+    pub fn numbers<const N: usize>(&mut self) -> [u64; N]
+        ensures { length self.new.rest.now ≤ length self.old.rest.now }
+    {
+        let mut numbers = [0; N];
+        for number in &mut numbers {
+            *number = self.number(Form::Unsigned).unwrap_or(0);
         }
-        16 => {
-            if d < 16 {
-                if n.value < 1152921504606846976 {
-                    return Partial {
-                        value: 16 * n.value + d,
-                        base: 16,
-                    };
-                }
-            }
+        numbers
+    }
+
+    // The text in quotes that ends the command. Where nothing is left, it is empty. `Err` has what stands in the place of a text where only its last
+    // quote is there.
+    pub fn text(self) -> Result<&'a [u8], &'a [u8]>
+        ensures empty { self.entry.rest.now ≡ [] → IsOkAnd result (λ text. text.now ≡ []) }
+        ensures quoted { self.entry.rest.now ≢ [] → IfOk result (λ text. length text.now + 3 ≡ length self.entry.rest.now) }
+    {
+        match self.rest {
+            [] => Ok(self.rest),
+            [_, b'"', text @ .., b'"'] => Ok(text),
+            [_, _, text @ .., b'"'] => Err(text),
+            _ => Err(&[]),
         }
-        _ => {}
     }
-    Partial { value: 0, base: 0 }
+
+    // Nothing is left.
+    pub fn end(self) -> Result<(), NotUnderstood>
+        ensures { IsOk result ↔ (self.entry.rest.now ≡ []) }
+    {
+        if self.rest.is_empty() {
+            Ok(())
+        } else {
+            Err(NotUnderstood)
+        }
+    }
 }
 
-// The digits from `from` on, of which there is one at least.
-fn digits(s: &[u8], from: usize, base: u64) -> Partial {
-    if s.len() <= from {
-        return Partial { value: 0, base: 0 };
-    }
-    let mut n = Partial { value: 0, base };
-    let mut i = from;
-    while i < s.len() {
-        n = more(n, s[i]);
-        i += 1;
-    }
-    n
+fn digit(c: u8, base: u64) -> Option<u64> {
+    let digit = match c {
+        b'0'..=b'9' => c - b'0',
+        b'a'..=b'f' => c - b'a' + 10,
+        _ => return None,
+    };
+    Some(u64::from(digit)).filter(|digit| *digit < base)
 }
 
-fn float(n: u64) -> u64 {
-    floats::to_bits(floats::from_u64(n))
+// The number of these digits, of which there is one at least.
+fn digits(s: &[u8], base: u64) -> Option<u64> {
+    if s.is_empty() {
+        return None;
+    }
+    s.iter().try_fold(
+        0u64,
+        |number, c| number.checked_mul(base)?.checked_add(digit(*c, base)?),
+    )
 }
 
-// The base, if the number lies below the end of its form.
-fn within(n: Partial, end: u64) -> u64 {
-    if n.value < end { n.base } else { 0 }
+fn float(number: u64) -> u64 {
+    floats::to_bits(floats::from_u64(number))
 }
 
 // A decimal without a minus, in its form.
-fn above(n: Partial, form: u8) -> Partial {
+fn above(number: u64, form: Form) -> Option<u64> {
     match form {
-        b'd' => Partial {
-            value: float(n.value),
-            base: n.base,
-        },
-        b's' => Partial {
-            value: n.value,
-            base: within(n, 0x8000000000000000),
-        },
-        _ => n,
+        Form::Unsigned => Some(number),
+        Form::Signed => Some(number).filter(|number| *number < 0x8000000000000000),
+        Form::Float => Some(float(number)),
     }
 }
 
 // The same with a minus before it.
-fn below(n: Partial, form: u8) -> Partial {
+fn below(number: u64, form: Form) -> Option<u64> {
     match form {
-        b'd' => Partial {
-            value: float(n.value) | 0x8000000000000000,
-            base: n.base,
-        },
-        b's' => Partial {
-            value: std::num::wrapping_sub_u64(0, n.value),
-            base: within(n, 0x8000000000000001),
-        },
-        _ => Partial { value: 0, base: 0 },
+        Form::Unsigned => None,
+        Form::Signed if number <= 0x8000000000000000 => Some(number.wrapping_neg()),
+        Form::Signed => None,
+        Form::Float => Some(float(number) | 0x8000000000000000),
     }
 }
 
-// The number behind the space at the start of `s`.
-fn spelled(s: &[u8], form: u8) -> Partial {
-    if byte(s, 0) != b' ' {
-        return Partial { value: 0, base: 0 };
-    }
-    if byte(s, 2) == b'x' {
-        return digits(s, 3, 16);
-    }
-    match byte(s, 1) {
-        b'\'' => Partial {
-            value: byte(s, 2) as u64,
-            base: 256,
-        },
-        b'-' => below(digits(s, 2, 10), form),
-        _ => above(digits(s, 1, 10), form),
-    }
-}
-
-// The number behind the space at `at`.
-pub fn number(line: &[u8], at: usize, form: u8) -> Found {
-    if at < line.len() {
-        let to = find(line, at + 1, b' ');
-        let n = spelled(part(line, at, to), form);
-        if n.base != 0 {
-            return Found {
-                value: n.value,
-                next: to,
-            };
-        }
-    }
-    Found { value: 0, next: at }
-}
-
-// The numbers of a command from the space at `at` on.
-pub fn arguments(line: &[u8], at: usize) -> Args {
-    let a = number(line, at, b'w');
-    let b = number(line, a.next, b'w');
-    let c = number(line, b.next, b'w');
-    let d = number(line, c.next, b'w');
-    Args {
-        a: a.value,
-        b: b.value,
-        c: c.value,
-        d: d.value,
-        is_all: d.next == line.len(),
-    }
-}
-
-// The text in quotes behind the space at `at`, which ends the command. Where the command ends at `at`, it is empty.
-pub fn text(line: &[u8], at: usize) -> Quoted {
-    let end = line.len();
-    if at < end {
-        if 3 <= end - at {
-            if line[end - 1] == b'"' {
-                return Quoted {
-                    from: at + 2,
-                    to: end - 1,
-                    is_text: line[at + 1] == b'"',
-                };
-            }
-        }
-    }
-    Quoted {
-        from: at,
-        to: at,
-        is_text: at == end,
+fn spelled(s: &[u8], form: Form) -> Option<u64> {
+    match s {
+        [_, b'x', hexadecimal @ ..] => digits(hexadecimal, 16),
+        [b'\'', byte @ ..] => Some(byte.first().map_or(0, |byte| u64::from(*byte))),
+        [b'-', decimal @ ..] => below(digits(decimal, 10)?, form),
+        decimal => above(digits(decimal, 10)?, form),
     }
 }

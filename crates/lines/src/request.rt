@@ -1,17 +1,27 @@
-// What a call of the library is asked, read from words of 8 bytes, and asking it.
-use crate::parts::word;
-use crate::value::value_of;
+// What a call of the library is asked, the numbers that a request is read from, and asking it.
+ghost use Rattle.std.specs.Prelude.{◌≡◌, ◌*◌, ◌%◌, ◌^◌, ◌≤◌, length, None};
+ghost use Rattle.words.specs.Words.{words};
+
 use conversion::logic::{Applied, apply};
 use modes::apply_at;
 use rules::number::Value;
-
-// A width, or the number of an edition, from here on stands for none.
-pub const NONE: u64 = 4294967296;
 
 // Those of a call that takes none.
 const STANDARD_WIDTH: u32 = 64;
 
 const STANDARD_EDITION: u32 = 420;
+
+// The first numbers of 8 bytes each.
+pub fn numbers<const N: usize>(bytes: &[u8]) -> [u64; N]
+    requires { N * 8 ≤ length bytes.now }
+    ensures { result ≡ words bytes.now 0 N }
+{
+    let mut all = [0; N];
+    for (i, number) in all.iter_mut().enumerate() {
+        *number = words::u64_at(bytes, 8 * i);
+    }
+    all
+}
 
 #[derive(Clone, Copy)]
 pub struct Request {
@@ -19,44 +29,45 @@ pub struct Request {
     pub value: Value,
     pub limit: u32,
     pub room: usize,
+    pub width: Option<u32>,
+    pub edition: Option<u32>,
 }
 
 impl Request {
-    // The address, the kind of the value and its 64 bits (see `value_of`), the visit limit, and the room for a text.
-    pub fn read(s: &[u8]) -> Self {
+    // Of a call with no width and no edition. The visit limit has 32 bits.
+    pub fn new(address: u64, value: Value, limit: u64, room: u64) -> Self
+        ensures address { result.address ≡ address }
+        ensures value { result.value ≡ value }
+        ensures limit { result.limit ≡ limit % 2 ^ 32 }
+        ensures room { result.room ≡ room }
+        ensures mode { (result.width ≡ None) × (result.edition ≡ None) }
+    {
         Self {
-            address: word(s, 0),
-            value: value_of(word(s, 8), word(s, 16)),
-            limit: (word(s, 24) % 4294967296) as u32,
-            room: word(s, 32) as usize,
+            address,
+            value,
+            limit: (limit % 4294967296) as u32,
+            room: room as usize,
+            width: None,
+            edition: None,
         }
     }
 
     // With a width or an edition the entry that takes both is asked, with the standard one in the place of one that is not given; else the one that
     // takes none.
-    pub fn ask(
-        self,
-        edition: u64,
-        width: u64,
-        image: &[u8],
-        text: &[u8],
-        out: &mut [u8],
-    ) -> Applied {
-        let value = self.value;
-        if (edition < NONE) | (width < NONE) {
-            let e = given(edition, STANDARD_EDITION);
-            let w = given(width, STANDARD_WIDTH);
-            apply_at(e, w, image, self.address, self.limit, value, text, out)
-        } else {
-            apply(image, self.address, self.limit, value, text, out)
+    pub fn ask(self, image: &[u8], text: &[u8], out: &mut [u8]) -> Applied {
+        let Request {
+            address,
+            value,
+            limit,
+            room: _,
+            width,
+            edition,
+        } = self;
+        if width.is_none() && edition.is_none() {
+            return apply(image, address, limit, value, text, out);
         }
-    }
-}
-
-fn given(n: u64, standard: u32) -> u32 {
-    if n < NONE {
-        (n % NONE) as u32
-    } else {
-        standard
+        let width = width.unwrap_or(STANDARD_WIDTH);
+        let edition = edition.unwrap_or(STANDARD_EDITION);
+        apply_at(edition, width, image, address, limit, value, text, out)
     }
 }

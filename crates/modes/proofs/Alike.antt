@@ -1,5 +1,6 @@
 -- Where the mode plays no part: two modes of edition 4.10 apply every conversion alike, and any two modes do where no block of type 11 is begun.
 -- Assumes nothing.
+use Rattle.std.specs.Prelude.{Ok, Result}
 use mathlib.Core.Path.{◌≡◌, refl, sym, ap, subst, ◌∙◌}
 use mathlib.Core.List.{List}
 use Prim.Native.Nat.{ℕ, zero, suc}
@@ -9,8 +10,6 @@ use Rattle.common.proofs.TypeNumbers.{type_number}
 use Rattle.blocks.specs.Block.{block_at, opened}
 use Rattle.blocks.specs.View.{view_of, seen_of, seen}
 use Rattle.blocks.specs.declared.Block.{Block}
-use Rattle.blocks.specs.declared.Parsed.{Parsed}
-use Rattle.blocks.specs.declared.Parsed.TheVariants.{Whole}
 use Rattle.blocks.specs.declared.view.View.{View}
 use Rattle.rules.specs.Numbers.{taken}
 use Rattle.rules.specs.declared.number.Value.{Value}
@@ -32,6 +31,7 @@ use Rattle.conversion.proofs.References.{Reference}
 use Rattle.conversion.proofs.Reach.{below}
 use Rattle.conversion.proofs.Steps.{Follows, step_follows, Chosen, chosen_key_lem, chosen_range_lem}
 use Rattle.modes.proofs.Same.{AgreeOn, one_block, same_typed, same_step}
+use Rattle.common.specs.declared.refusal.Refusal.{Refusal}
 
 -- ---- two modes of edition 4.10
 module _ (one other : Mode) (older : one.edition ≡ Mdf410) (also : other.edition ≡ Mdf410) (img t : List ℕ) where
@@ -75,12 +75,12 @@ module _ (here there : ℕ → Value → Ap) (img : List ℕ) (b : Block)
   other_type e v (Done p) h other none = refl
 
 module _ (one other : Mode) (img t : List ℕ) where
-  step_of_other : (a : ℕ) (v : Value) → opened img a ≡ Whole (block_at img a) → ((block_at img a).kind ≡ 11 → ⊥)
+  step_of_other : (a : ℕ) (v : Value) → opened img a ≡ Ok (block_at img a) → ((block_at img a).kind ≡ 11 → ⊥)
       → step_of one img t a v ≡ step_of other img t a v
   unfolding step_of seen
   step_of_other a v whole another =
       let b = block_at img a in
-      subst (λ (p : Parsed). unless_cut one img t v (seen_of p) ≡ unless_cut other img t v (seen_of p)) (sym whole)
+      subst (λ (p : Result Block Refusal). unless_cut one img t v (seen_of p) ≡ unless_cut other img t v (seen_of p)) (sym whole)
       (same_typed one other img t (view_of b) v (type_of b.kind)
       (λ is. absurd (another (sym (type_number b.kind) ∙ ap number_of_type is))))
 

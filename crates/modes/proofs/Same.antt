@@ -1,5 +1,6 @@
 -- Two modes of one edition that let the same bits of a value pass apply a conversion alike: a nested block gets the value itself, or a part of those
 -- bits, of which both let pass all. Assumes nothing.
+use Rattle.std.specs.Prelude.{Err, None, Ok, Option, Some}
 use mathlib.Core.Path.{◌≡◌, refl, sym, ap, ap₂, subst, ◌∙◌}
 use mathlib.Core.Bool.{Bool, true, false, cond}
 use mathlib.Core.List.{List}
@@ -12,16 +13,11 @@ use lib.Pow.{pow_pos}
 use Rattle.floats.specs.Twos.{twos}
 use Rattle.common.specs.Types.{type_of}
 use Rattle.common.specs.declared.refusal.Refusal.TheVariants.{Short}
-use Rattle.common.specs.declared.refusal.Word.{Word}
-use Rattle.common.specs.declared.refusal.Word.TheVariants.{Bits, NoWord}
 use Rattle.common.specs.declared.types.ConversionType.{ConversionType}
 use Rattle.common.specs.declared.types.ConversionType.TheVariants as kind
 use Rattle.blocks.specs.Block.{block_at, block_end, opened}
 use Rattle.blocks.specs.View.{view_of, seen_of, seen}
-use Rattle.blocks.specs.declared.Parsed.TheVariants.{Whole, Refused}
 use Rattle.blocks.specs.declared.view.View.{View}
-use Rattle.blocks.specs.declared.view.Seen.{Seen}
-use Rattle.blocks.specs.declared.view.Seen.TheVariants.{Open, Cut}
 use Rattle.leads.specs.Lead.{lead_at}
 use Rattle.leads.specs.declared.lead.Lead.{Lead}
 use Rattle.leads.specs.declared.lead.Lead.TheVariants as lead
@@ -42,9 +38,9 @@ use Rattle.engine.specs.Apply.{Ap, begin, noting, passed_on, mask_at, group_coun
 use Rattle.pieces.specs.Label.{label}
 
 -- ---- the bits that pass, and what a mask leaves of them
-abbrev pub Below : Mode → Word → Type 0
-Below mode (Bits bits) = bits < 2 ^ mode.width
-Below mode NoWord = Unit {0}
+abbrev pub Below : Mode → Option ℕ → Type 0
+Below mode (Some bits) = bits < 2 ^ mode.width
+Below mode None = Unit {0}
 
 -- they are below the width's power of two
 pub below : (mode : Mode) (v : Value) → Below mode (bits_of mode v)
@@ -55,8 +51,8 @@ below mode Text = tt
 below mode Other = tt
 
 -- the bits of a number that a mode lets pass whole
-pub held : (mode : Mode) (n : ℕ) → n < 2 ^ mode.width → bits_of mode (Unsigned n) ≡ Bits n
-held mode n h = ap Bits (mod-eq_of_lt h)
+pub held : (mode : Mode) (n : ℕ) → n < 2 ^ mode.width → bits_of mode (Unsigned n) ≡ Some n
+held mode n h = ap Some (mod-eq_of_lt h)
 
 -- ---- one block, given that the nested ones agree on what it gives them
 module _ (one other : ℕ → Value → Ap) (img : List ℕ) where
@@ -68,7 +64,7 @@ module _ (one other : ℕ → Value → Ap) (img : List ℕ) where
   passed v same (choice.Done p) = refl
 
   parted : (m : ℕ) → Agree (Unsigned m) → (l : Lead) → part_of one img l m ≡ part_of other img l m
-  parted m same (lead.Words from to) = refl
+  parted m same (lead.Words run) = refl
   parted m same (lead.Nested a) = ap (prefixed_ap (label img a)) (same a)
   parted m same lead.Nil = refl
   parted m same lead.Elsewhere = refl
@@ -105,10 +101,10 @@ module _ (mode : Mode) (img t : List ℕ) where
   BelowIn (ByBits b bits) = bits < 2 ^ mode.width
   BelowIn (Done p) = Unit {0}
 
-  below_in : (e : Edition) (b : View) (w : Word) → Below mode w → BelowIn (grouped_in e b w)
+  below_in : (e : Edition) (b : View) (w : Option ℕ) → Below mode w → BelowIn (grouped_in e b w)
   below_in Mdf410 b w h = tt
-  below_in Mdf420 b (Bits bits) h = h
-  below_in Mdf420 b NoWord h = tt
+  below_in Mdf420 b (Some bits) h = h
+  below_in Mdf420 b None h = tt
 
   below_typed : (b : View) (v : Value) (k : ConversionType) → BelowIn (typed mode img t b v k)
   below_typed b v kind.Identity = tt
@@ -125,9 +121,9 @@ module _ (mode : Mode) (img t : List ℕ) where
   below_typed b v kind.BitGroups = below_in mode.edition b (bits_of mode v) (below mode v)
   below_typed b v (kind.Unknown n) = tt
 
-  below_seen : (v : Value) (s : Seen) → BelowIn (unless_cut mode img t v s)
-  below_seen v (Open b) = below_typed b v (type_of b.kind)
-  below_seen v Cut = tt
+  below_seen : (v : Value) (s : Option View) → BelowIn (unless_cut mode img t v s)
+  below_seen v (Some b) = below_typed b v (type_of b.kind)
+  below_seen v None = tt
 
   below_step : (a : ℕ) (v : Value) → BelowIn (step_of mode img t a v)
   unfolding step_of
@@ -152,9 +148,9 @@ module _ (one other : Mode) (img t : List ℕ) where
   same_typed b v kind.BitGroups h = h refl
   same_typed b v (kind.Unknown n) h = refl
 
-  same_seen : (v : Value) (s : Seen) → ((b : View) → grouped one b v ≡ grouped other b v) → unless_cut one img t v s ≡ unless_cut other img t v s
-  same_seen v (Open b) h = same_typed b v (type_of b.kind) (λ _. h b)
-  same_seen v Cut h = refl
+  same_seen : (v : Value) (s : Option View) → ((b : View) → grouped one b v ≡ grouped other b v) → unless_cut one img t v s ≡ unless_cut other img t v s
+  same_seen v (Some b) h = same_typed b v (type_of b.kind) (λ _. h b)
+  same_seen v None h = refl
 
   pub same_step : (a : ℕ) (v : Value) → ((b : View) → grouped one b v ≡ grouped other b v) → step_of one img t a v ≡ step_of other img t a v
   unfolding step_of
@@ -163,7 +159,7 @@ module _ (one other : Mode) (img t : List ℕ) where
 -- ---- two modes of one edition
 module _ (one other : Mode) (edition : one.edition ≡ other.edition) (img t : List ℕ) where
   same_grouped : (v w : Value) → bits_of one v ≡ bits_of other w → (b : View) → grouped one b v ≡ grouped other b w
-  same_grouped v w h b = ap₂ (λ (e : Edition) (x : Word). grouped_in e b x) edition h
+  same_grouped v w h b = ap₂ (λ (e : Edition) (x : Option ℕ). grouped_in e b x) edition h
 
   -- what a mask leaves of bits that both let pass, both let pass
   masked : (bits m : ℕ) → bits < 2 ^ one.width → bits < 2 ^ other.width → bits_of one (Unsigned (bit_and bits m)) ≡ bits_of other (Unsigned (bit_and bits m))
@@ -190,17 +186,17 @@ module _ (one other : Mode) (edition : one.edition ≡ other.edition) (img t : L
       (one_block (applied d one img t) (applied d other img t) img v (step_of one img t a v) both ∙ ap (ruled (applied d other img t) img v) same)
 
   -- a bit-group block: the bits that pass decide, and the value itself plays no part
-  by_groups : (d : ℕ) (e : Edition) (b : View) (v w : Value) (x : Word) → Below one x → Below other x
+  by_groups : (d : ℕ) (e : Edition) (b : View) (v w : Value) (x : Option ℕ) → Below one x → Below other x
       → ruled (applied d one img t) img v (grouped_in e b x) ≡ ruled (applied d other img t) img w (grouped_in e b x)
   by_groups d Mdf410 b v w x p q = refl
-  by_groups d Mdf420 b v w (Bits bits) p q =
+  by_groups d Mdf420 b v w (Some bits) p q =
       all_groups (applied d one img t) (applied d other img t) img b bits
       (λ i a. same_bits d a (Unsigned (bit_and bits (mask_at img b i))) (masked bits (mask_at img b i) p q))
-  by_groups d Mdf420 b v w NoWord p q = refl
+  by_groups d Mdf420 b v w None p q = refl
 
   -- what a block does that is whole, or is not
   abbrev By : Mode → ℕ → ℕ → Value → Bool → Ap
-  By mode d a v whole = ruled (applied d mode img t) img v (unless_cut mode img t v (seen_of (cond whole (Whole (block_at img a)) (Refused (Short a)))))
+  By mode d a v whole = ruled (applied d mode img t) img v (unless_cut mode img t v (seen_of (cond whole (Ok (block_at img a)) (Err (Short a)))))
 
   of_root : (d a : ℕ) (v w : Value) → (block_at img a).kind ≡ 11 → bits_of one v ≡ bits_of other w → (whole : Bool) → By one d a v whole ≡ By other d a w whole
   unfolding type_of

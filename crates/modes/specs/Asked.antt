@@ -1,7 +1,7 @@
 -- Applying in the mode that a caller asks for in two numbers: the edition of MDF (request [8]: "The caller now names the edition, 4.10 or 4.20") and
 -- the width of the signal (request [2]: "the caller gives the signal's width, 1 to 64, and only that many low bits reach the masks").
 -- What the edition does is `grouped_in`, and what the width does is `bits_of`, both in `steps`. Assumes nothing: these are definitions.
-use Rattle.std.specs.Prelude.{ℕ, Bool, cond, ◌&&◌, ◌||◌, List, eqb, ltb, leb}
+use Rattle.std.specs.Prelude.{ℕ, Bool, cond, ◌&&◌, ◌||◌, List, eqb, ltb, leb, Err, Ok, Result}
 use Rattle.common.specs.declared.refusal.Refusal.{Refusal}
 use Rattle.common.specs.declared.refusal.Refusal.TheVariants.{Width, Edition as WrongEdition}
 use Rattle.rules.specs.declared.number.Value.{Value}
@@ -33,6 +33,10 @@ applying_at edition width img a limit v t out =
     (call (refused_before WrongEdition) out)
 
 -- ---- for inner contracts
--- the refusal of a mode that is none, by whether its edition is one
-abbrev pub refusal_of : Bool → Refusal
-refusal_of named = cond named Width WrongEdition
+-- the edition of a number, or the refusal of one that names none
+abbrev pub edition_named : ℕ → Result Edition Refusal
+edition_named edition = cond (is_edition edition) (Ok (edition_of edition)) (Err WrongEdition)
+
+-- the mode of two numbers, or the refusal of a mode that is none
+abbrev pub mode_asked : ℕ → ℕ → Result Mode Refusal
+mode_asked edition width = cond (is_edition edition) (cond (is_width width) (Ok (mode_of edition width)) (Err Width)) (Err WrongEdition)

@@ -5,58 +5,53 @@
 
 ghost use Rattle.std.specs.Prelude.{◌≡◌};
 ghost use Rattle.conversion.specs.Entry.{call};
-ghost use Rattle.modes.specs.Asked.{is_edition, is_width, edition_of, mode_of, refusal_of, applying_at};
+ghost use Rattle.modes.specs.Asked.{is_edition, is_width, edition_named, mode_asked, applying_at};
 
 use common::refusal::Refusal;
 use conversion::logic::{Applied, apply_in};
 use rules::number::Value;
 use steps::mode::{Edition, Mode};
 
-// The editions that a caller can name: 410 is 4.10, and 420 is 4.20.
+// The edition that a number names: 410 is 4.10, and 420 is 4.20. No other can be named. No TryFrom: an edition is a type of steps', where it has no
+// number.
+fn edition_of(edition: u32) -> Result<Edition, Refusal>
+    ensures { result ≡ edition_named edition }
+{
+    match edition {
+        410 => Ok(Edition::Mdf410),
+        420 => Ok(Edition::Mdf420),
+        _ => Err(Refusal::Edition),
+    }
+}
+
+// Whether a number names an edition.
 pub fn is_edition(edition: u32) -> bool
     ensures { result ≡ is_edition edition }
 {
-    (edition == 410) | (edition == 420)
+    edition_of(edition).is_ok()
 }
 
 // A signal has 1 to 64 bits.
 pub fn is_width(width: u32) -> bool
     ensures { result ≡ is_width width }
 {
-    (0 < width) & (width <= 64)
+    (1..=64).contains(&width)
 }
 
-// Of a number that names one.
-fn edition_of(edition: u32) -> Edition
-    ensures { result ≡ edition_of edition }
+// A wrong edition is refused before a wrong width.
+fn mode_of(edition: u32, width: u32) -> Result<Mode, Refusal>
+    ensures { result ≡ mode_asked edition width }
 {
-    if edition == 410 {
-        Edition::Mdf410
+    let edition = edition_of(edition)?;
+    if is_width(width) {
+        Ok(Mode { width, edition })
     } else {
-        Edition::Mdf420
-    }
-}
-
-fn mode_of(edition: u32, width: u32) -> Mode
-    ensures { result ≡ mode_of edition width }
-{
-    let edition = edition_of(edition);
-    Mode { width, edition }
-}
-
-// Why a mode is refused: for its width only where the edition is one.
-fn refusal_of(named: bool) -> Refusal
-    ensures { result ≡ refusal_of named }
-{
-    if named {
-        Refusal::Width
-    } else {
-        Refusal::Edition
+        Err(Refusal::Width)
     }
 }
 
 // As `apply`, in an edition and for a signal of so many bits. In 4.10 a block of type 11 leaves its value unchanged; in 4.20 no more than so many low
-// bits of a whole number reach its masks. A wrong edition is refused before a wrong width, and either before anything else is looked at.
+// bits of a whole number reach its masks. A mode that is none is refused before anything else is looked at.
 pub fn apply_at(
     edition: u32,
     width: u32,
@@ -70,18 +65,8 @@ pub fn apply_at(
     ensures { call result out.new
         ≡ applying_at edition width image.now address limit value text.now out.old }
 {
-    let named = is_edition(edition);
-    if named & is_width(width) {
-        apply_in(
-            mode_of(edition, width),
-            image,
-            address,
-            limit,
-            value,
-            text,
-            out,
-        )
-    } else {
-        Applied::refused(refusal_of(named))
+    match mode_of(edition, width) {
+        Ok(mode) => apply_in(mode, image, address, limit, value, text, out),
+        Err(refusal) => Applied::refused(refusal),
     }
 }

@@ -6,86 +6,47 @@
 #![tactic(auto)]
 
 mod parse;
-mod say;
+mod said;
 mod write;
 
-ghost use Rattle.std.specs.Prelude.{◌≤◌, length};
+use lines::read::Operands;
+use std::io::{self, Read};
 
-use lines::parts::{byte, find, part};
-use lines::read::number;
+// The most bytes of the input that are read.
+const INPUT: u64 = 16384;
 
 // Room for a block of 65,535 values and some bytes behind it.
-pub type Memory = [u8; 524416];
+const MEMORY: usize = 524416;
 
-// The six numbers of a line, 0 where there are fewer, and whether nothing else stands in it.
-#[derive(Clone, Copy)]
-pub struct Numbers {
-    pub a: u64,
-    pub b: u64,
-    pub c: u64,
-    pub d: u64,
-    pub e: u64,
-    pub f: u64,
-    pub is_all: bool,
-}
-
-fn numbers_of(line: &[u8]) -> Numbers {
-    let a = number(line, 1, b'w');
-    let b = number(line, a.next, b'w');
-    let c = number(line, b.next, b'w');
-    let d = number(line, c.next, b'w');
-    let e = number(line, d.next, b'w');
-    let f = number(line, e.next, b'w');
-    Numbers {
-        a: a.value,
-        b: b.value,
-        c: c.value,
-        d: d.value,
-        e: e.value,
-        f: f.value,
-        is_all: f.next == line.len(),
-    }
-}
-
-// A line that is not understood is said to be so.
-fn obey(line: &[u8], n: Numbers, mem: &mut Memory) {
-    if n.is_all {
-        match byte(line, 0) {
-            b'p' => parse::parse(n, mem),
-            b'w' => write::write(n, mem),
-            _ => say::say(b" not understood"),
-        }
-    } else {
-        say::say(b" not understood");
+// A command is a letter and six numbers, 0 where there are fewer. One that is not understood is said to be so.
+fn obey(rt: &impl Print, command: &[u8], mem: &mut [u8]) -> io::Result<()> {
+    let rest = command.get(1..).unwrap_or(&[]);
+    let mut operands = Operands { rest };
+    let numbers = operands.numbers::<6>();
+    match (command, operands.rest) {
+        ([b'p', ..], []) => parse::parse(rt, parse::Image::new(numbers), mem),
+        ([b'w', ..], []) => write::write(rt, write::Case::new(numbers), mem),
+        _ => print!(rt; " not understood"),
     }
 }
 
 // A remark begins with !, and is not written.
-fn answer(line: &[u8], mem: &mut Memory) {
-    match byte(line, 0) {
-        b'!' => {}
-        _ => {
-            io::write_all(1, line);
-            obey(line, numbers_of(line), mem);
-            say::say(b"\n");
-        }
+fn answer(rt: &impl Print, line: &[u8], mem: &mut [u8]) -> io::Result<()> {
+    if let [b'!', ..] = line {
+        return Ok(());
     }
+    rt.write_all(line)?;
+    obey(rt, line, mem)?;
+    println!(rt)
 }
 
-fn all(s: &[u8], mem: &mut Memory)
-    requires { length s.now ≤ 16384 }
-{
-    let mut at = 0;
-    while at < s.len() {
-        let to = find(s, at, b'\n');
-        answer(part(s, at, to), mem);
-        at = to + 1;
+fn main(rt: HostRuntime) -> io::Result<()> {
+    let mut input = Vec::new(rt.alloc());
+    rt.reader().take(INPUT).read_to_end(&mut input)?;
+    // Arrays here and below: each has one size, and nothing grows.
+    let mut mem = [0; MEMORY];
+    for line in input.split_inclusive(|byte| *byte == b'\n') {
+        answer(&rt, line.strip_suffix(b"\n").unwrap_or(line), &mut mem)?;
     }
-}
-
-fn main() {
-    let mut input = [0u8; 16384];
-    let n = io::read_full(0, &mut input);
-    let mut mem = [0u8; 524416];
-    all(&input[..n], &mut mem);
+    Ok(())
 }

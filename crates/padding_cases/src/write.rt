@@ -1,60 +1,77 @@
 // A block is written: whether it has a range, how many references and values, its excess, its reserved bytes, and the room.
-use crate::{Memory, Numbers, say};
+use crate::said::Parsed;
 use blocks::Block;
-use common::written::Written;
+use common::refusal::Refusal;
 use lines::build::fill;
 use lines::parts::{part, room};
-use std::num::wrapping_sub_usize;
+use lines::refusal::Told;
+use std::io;
 
 // Each byte of the output before the call.
 const BEFORE: u8 = 170;
 
-fn record(n: Numbers) -> Block {
-    let b = Block::new(1).with_padding((n.e % 4294967296) as u32, n.d);
-    if n.a == 0 { b } else { b.with_range(-1.0, 1.0) }
+#[derive(Clone, Copy)]
+pub struct Case {
+    block: Block,
+    references: usize,
+    values: usize,
+    room: usize,
 }
 
-// The first so many, or all where there are fewer.
-pub fn first(s: &[u64], n: u64) -> &[u64] {
-    let to = n as usize;
-    if to <= s.len() {
-        return &s[0..to];
+impl Case {
+    pub fn new([ranged, references, values, excess, reserved, room]: [u64; 6]) -> Self {
+        let block = Block::new(1).with_padding((reserved % 0x100000000) as u32, excess);
+        Self {
+            block: if ranged == 0 {
+                block
+            } else {
+                block.with_range(-1.0, 1.0)
+            },
+            references: references as usize,
+            values: values as usize,
+            room: room as usize,
+        }
     }
-    s
+
+    // References of the word 7, and values that are a NaN's pattern of ones.
+    fn written(self, out: &mut [u8]) -> Result<usize, Refusal> {
+        let references = [7; 4];
+        let values = [u64::MAX; 65536];
+        let references = part(&references, 0, self.references);
+        writer::write_words(self.block, references, part(&values, 0, self.values), out)
+    }
 }
 
-// References of the word 7, and values that are a NaN's pattern of ones.
-fn written(n: Numbers, mem: &mut [u8]) -> Written {
-    let refs = [7u64; 4];
-    let values = [0xffffffffffffffffu64; 65536];
-    let out = room(mem, 0, n.f as usize);
-    writer::write_words(record(n), first(&refs, n.b), first(&values, n.c), out)
+fn are_all(bytes: &[u8], byte: u8) -> bool {
+    bytes.iter().all(|b| *b == byte)
 }
 
 // What stands in the output then: the block parsed with its padding, zeros as its excess, and behind it what was there.
-fn told(out: &[u8], length: usize, excess: usize) {
-    say::labelled(b" wrote ", length as u64);
-    say::parsed(padding::parse(out, 0, true));
-    say::unless_all(
-        part(out, wrapping_sub_usize(length, excess), length),
-        0,
-        b" not zeros",
-    );
-    say::unless_all(part(out, length, out.len()), BEFORE, b" output touched");
+fn told(rt: &impl Print, out: &[u8], length: usize, excess: usize) -> io::Result<()> {
+    let parsed = Parsed(padding::parse(out, 0, true));
+    print!(rt; " wrote {length}{parsed}")?;
+    if !are_all(part(out, length.wrapping_sub(excess), length), 0) {
+        print!(rt; " not zeros")?;
+    }
+    touched(rt, part(out, length, out.len()))
 }
 
-fn answered(n: Numbers, w: Written, out: &[u8]) {
-    match w {
-        Written::Bytes(k) => told(out, k, n.d as usize),
-        Written::Unwritten(r) => {
-            say::refused(r);
-            say::unless_all(out, BEFORE, b" output touched");
+// Said where not all bytes are as they were.
+fn touched(rt: &impl Print, out: &[u8]) -> io::Result<()> {
+    if !are_all(out, BEFORE) {
+        print!(rt; " output touched")?;
+    }
+    Ok(())
+}
+
+pub fn write(rt: &impl Print, case: Case, mem: &mut [u8]) -> io::Result<()> {
+    let out = room(mem, 0, case.room);
+    out.fill(BEFORE);
+    match case.written(out) {
+        Ok(length) => told(rt, out, length, case.block.excess as usize),
+        Err(refusal) => {
+            print!(rt; " refused {}", Told(refusal))?;
+            touched(rt, out)
         }
     }
-}
-
-pub fn write(n: Numbers, mem: &mut Memory) {
-    fill(mem, 0, n.f as usize, BEFORE);
-    let w = written(n, mem);
-    answered(n, w, part(mem, 0, n.f as usize));
 }

@@ -1,11 +1,11 @@
 -- Laws of writing: nothing, one byte, one text and then another, a part of a list byte by byte. Assumes nothing.
-use mathlib.Core.Path.{◌≡◌, refl, sym, ap, ◌∙◌}
+use Rattle.std.proofs.lemmas.Bool.{cases_lt}
+use mathlib.Core.Path.{◌≡◌, refl, sym, ap, subst, ◌∙◌}
 use mathlib.Core.Bool.{Bool, true, false, cond}
-use mathlib.Core.Logic.{◌⊎◌, inl, inr, ⊎_elim}
+use mathlib.Core.Logic.{⊎_elim}
 use mathlib.Core.List.{List, [], ◌∷◌, ◌++◌}
 use Prim.Native.Nat.{ℕ, zero, suc, ◌+◌, ◌-◌, ◌≤◌, ◌<◌, min}
 use native.Mathlib.Nat.{add-zero}
-use native.Mathlib.Decide.{dec_lt}
 use native.Mathlib.Numerals.{add-one}
 use native.Mathlib.Omega.{arith}
 use lib.Dec.{eqb}
@@ -14,14 +14,8 @@ use lib.Seq.{take-suc, take_all, take-length, take-take, length-take-le, get_or-
 use Rattle.words.specs.Words.{part}
 use Rattle.common.specs.Text.{until_zero, text_bytes}
 use Rattle.common.proofs.Texts.{bytes_short, text_shown}
-use Rattle.pieces.specs.Write.{sat, Wrote, Put}
-
-pub below? : (i n : ℕ) → (i < n) ⊎ (n ≤ i)
-below? i n = go (dec_lt i n)
-  where
-    go : Dec (i < n) → (i < n) ⊎ (n ≤ i)
-    go (yes h) = inl h
-    go (no h) = inr (omega arith)
+use Rattle.pieces.specs.Write.{sat, Wrote, PlaceIn, Put}
+use Rattle.pieces.specs.declared.paste.Place.{Place}
 
 pub none : (o : List ℕ) (pos lim : ℕ) → Wrote o o pos lim []
 none o pos lim = record { same = refl; below = λ i h. refl; above = λ i h. refl; text = λ i h l. omega arith }
@@ -50,9 +44,9 @@ pub next : (o p q : List ℕ) (pos lim e : ℕ) (s t : List ℕ) → lim ≤ len
     → Wrote o q pos lim (s ++ t)
 next o p q pos lim e s t fits end w x = record {
   same = x.same ∙ w.same;
-  below = λ i h. ⊎_elim (λ l. x.below i l ∙ w.below i h) (λ l. x.above i (omega arith) ∙ w.above i (omega arith)) (below? i e);
+  below = λ i h. ⊎_elim (λ l. x.below i l ∙ w.below i h) (λ l. x.above i (omega arith) ∙ w.above i (omega arith)) (cases_lt i e);
   above = λ i h. x.above i h ∙ w.above i h;
-  text = λ i h l. ⊎_elim (λ k. x.below (pos + i) (omega arith) ∙ w.text i k l ∙ sym (get_or-append s t 0 i k)) (λ k. late i (i - length s) (omega arith) (omega (arith, length-append s t)) l) (below? i (length s));
+  text = λ i h l. ⊎_elim (λ k. x.below (pos + i) (omega arith) ∙ w.text i k l ∙ sym (get_or-append s t 0 i k)) (λ k. late i (i - length s) (omega arith) (omega (arith, length-append s t)) l) (cases_lt i (length s));
 }
   where
     late : (i j : ℕ) → i ≡ length s + j → j < length t → pos + i < lim → get_or q (pos + i) 0 ≡ get_or (s ++ t) i 0
@@ -62,14 +56,19 @@ next o p q pos lim e s t fits end w x = record {
         ∙ sym (get_or-append-add s t j 0)
         ∙ ap (λ (k : ℕ). get_or (s ++ t) k 0) (sym a)
 
-pub then : {o p q : List ℕ} {pos lim e f : ℕ} {s t : List ℕ} → lim ≤ length o → Put o p pos lim s e → Put p q e lim t f → Put o q pos lim (s ++ t) f
-then {o} {p} {q} {pos} {lim} {e} {f} {s} {t} fits x y = record {
+pub then : {o p q : List ℕ} {at e f : Place} {s t : List ℕ} → at.lim ≤ length o → Put o p at s e → Put p q e t f → Put o q at (s ++ t) f
+then {o} {p} {q} {at} {e} {f} {s} {t} fits x y = record {
   end = simp length-append (omega (arith, x.end, x.wrote.same, y.end));
-  wrote = next o p q pos lim e s t fits x.end x.wrote y.wrote;
+  limit = y.limit ∙ x.limit;
+  wrote = next o p q at.pos at.lim e.pos s t fits x.end x.wrote (subst (λ (l : ℕ). Wrote p q e.pos l t) x.limit y.wrote);
 }
 
-pub empty : (o : List ℕ) (pos lim : ℕ) → pos ≤ length o + 1 → Put o o pos lim [] pos
-empty o pos lim h = record { end = omega arith; wrote = none o pos lim }
+pub empty : (o : List ℕ) (at : Place) → at.pos ≤ length o + 1 → Put o o at [] at
+empty o at h = record { end = omega arith; limit = refl; wrote = none o at.pos at.lim }
+
+-- the place behind lies in the output again
+pub placed : {o p : List ℕ} {at e : Place} {t : List ℕ} → PlaceIn o at → Put o p at t e → PlaceIn p e
+placed fits put = (omega (arith, fits.0, put.wrote.same, put.limit), omega (arith, put.wrote.same, put.end))
 
 -- ---- the front of a list: one byte more, and all of it where the limit is met
 module _ (o p : List ℕ) (pos lim : ℕ) (s : List ℕ) where
@@ -90,15 +89,11 @@ module _ (o p : List ℕ) (pos lim : ℕ) (s : List ℕ) where
           let held : i < length (take k s) = omega (arith, length-take k s) in
           w.text i held hl ∙ get_or-take k s i 0 there ∙ sym (get_or-take n s i 0 short)
 
--- ---- the part of s from one place up to another
-pub part_start : (o : List ℕ) (pos lim : ℕ) (s : List ℕ) (from : ℕ) → Wrote o o pos lim (part s from from)
-part_start o pos lim s from = let z : from - from ≡ 0 = omega arith in rw z (none o pos lim)
-
-pub part_more : (o p : List ℕ) (pos lim : ℕ) (s : List ℕ) (from i e : ℕ) → from ≤ i → i < length s → e ≡ pos + (i - from) → e < lim → lim ≤ length o
-    → Wrote o p pos lim (part s from i) → Wrote o (set p e (get_or s i 0)) pos lim (part s from (i + 1))
-part_more o p pos lim s from i e h k he hl out w =
-    let place : i ≡ from + (i - from) = omega arith in
-    one_more o p pos lim (drop from s) (i - from) (i + 1 - from) (get_or s i 0) e (omega (arith, length-drop from s)) (omega arith) (ap (λ (j : ℕ). get_or s j 0) place ∙ sym (get_or-drop from s (i - from) 0)) he hl out w
+-- ---- the part of s from one place on
+pub part_more : (o p : List ℕ) (pos lim : ℕ) (s : List ℕ) (from k : ℕ) → from + k < length s → pos + k < lim → lim ≤ length o
+    → Wrote o p pos lim (take k (drop from s)) → Wrote o (set p (pos + k) (get_or s (from + k) 0)) pos lim (take (k + 1) (drop from s))
+part_more o p pos lim s from k h hl out w =
+    one_more o p pos lim (drop from s) k (k + 1) (get_or s (from + k) 0) (pos + k) (omega (arith, length-drop from s)) refl (sym (get_or-drop from s k 0)) refl hl out w
 
 -- ---- a text that runs in the image, looked at no further than one byte past the room
 until_take : (n : ℕ) (bs : List ℕ) → until_zero (take n bs) ≡ take n (until_zero bs)
@@ -134,7 +129,7 @@ looked_at img from to n h = ⊎_elim
     let m : min to (from + n) ≡ to = omega arith in
     ap (λ (k : ℕ). length (text_bytes img from k)) m
     ∙ (let e : length (text_bytes img from to) ≡ min (length (text_bytes img from to)) n = omega (arith, bytes_short img from to) in e))
-    (below? (from + n) to)
+    (cases_lt (from + n) to)
 
 -- the part of the image that is looked at is the front of the text
 pub looked_part : (img : List ℕ) (from to n : ℕ) → n ≤ length (text_bytes img from to) → take n (drop from img) ≡ take n (text_bytes img from to)
@@ -144,14 +139,15 @@ looked_part img from to n h =
     sym (take-take n (length t) (drop from img) h) ∙ ap (take n) (ap (λ (k : ℕ). take k (drop from img)) (sym all) ∙ text_shown img from to)
 
 -- a text is put where it is written as far as it was looked at
-pub text_put : {o p part : List ℕ} {pos lim e : ℕ} (t : List ℕ) (n : ℕ) → lim ≤ length o → pos ≤ length o + 1 → n ≡ min (length t) (length o + 1 - pos) → e ≡ pos + n
-    → part ≡ take n t → Wrote o p pos lim part → Put o p pos lim t e
-text_put {o} {p} {part} {pos} {lim} {e} t n fits low hn he front v =
-    let w : Wrote o p pos lim (take n t) = rw front at v in
+pub text_put : {o p part : List ℕ} {at e : Place} (t : List ℕ) (n : ℕ) → PlaceIn o at → n ≡ min (length t) (length o + 1 - at.pos) → e.pos ≡ at.pos + n
+    → e.lim ≡ at.lim → part ≡ take n t → Wrote o p at.pos at.lim part → Put o p at t e
+text_put {o} {p} {part} {at} {e} t n fits hn he hl front v =
+    let w : Wrote o p at.pos at.lim (take n t) = rw front at v in
     record {
       end = omega arith;
+      limit = hl;
       wrote = ⊎_elim
-          (λ (l : n < length t). rw take-length at (longer o p pos lim t n (length t) (omega arith) (omega arith) w))
+          (λ (l : n < length t). rw take-length at (longer o p at.pos at.lim t n (length t) (omega arith) (omega arith) w))
           (λ (l : length t ≤ n). rw (take_all n t l) at w)
-          (below? n (length t));
+          (cases_lt n (length t));
     }

@@ -17,7 +17,7 @@ pub data Answer : Type 0 where
 -- a text that runs in the image is its bytes
 abbrev pub spelled : List ℕ → Plain → Answer
 spelled img (plain.Number x) = number x
-spelled img (plain.Words from to) = text (text_bytes img from to)
+spelled img (plain.Words run) = text (text_bytes img run.from run.to)
 spelled img plain.Unchanged = unchanged
 spelled img plain.Unknown = unknown
 spelled img plain.Formula = formula

@@ -13,7 +13,7 @@ use Rattle.pieces.specs.declared.said.Outcome.{Outcome}
 -- a text t is said by where it runs in the image, or, put together from pos on, by the place behind it, or one behind the room
 abbrev pub SaysText : List ℕ → ℕ → ℕ → List ℕ → Said → Type 0
 SaysText img room pos t (said.Number x) = ⊥
-SaysText img room pos t (said.Words from to) = (t ≡ text_bytes img from to) × PartIn img from to
+SaysText img room pos t (said.Words run) = (t ≡ text_bytes img run.from run.to) × PartIn img run.from run.to
 SaysText img room pos t (said.Text e) = e ≡ sat room (pos + length t)
 SaysText img room pos t said.Unchanged = ⊥
 SaysText img room pos t said.Unknown = ⊥
@@ -32,7 +32,7 @@ Says img room pos broken s = s ≡ said.Broken
 -- a run that is said lies in the image
 abbrev pub SaidIn : List ℕ → Said → Type 0
 SaidIn img (said.Number x) = Unit {0}
-SaidIn img (said.Words from to) = PartIn img from to
+SaidIn img (said.Words run) = PartIn img run.from run.to
 SaidIn img (said.Text e) = Unit {0}
 SaidIn img said.Unchanged = Unit {0}
 SaidIn img said.Unknown = Unit {0}
@@ -42,7 +42,7 @@ SaidIn img said.Broken = Unit {0}
 -- what is put into the output by then: a text that was put together
 abbrev pub laid_text : List ℕ → Said → List ℕ
 laid_text t (said.Number x) = []
-laid_text t (said.Words from to) = []
+laid_text t (said.Words run) = []
 laid_text t (said.Text e) = t
 laid_text t said.Unchanged = []
 laid_text t said.Unknown = []
@@ -67,7 +67,7 @@ pub record Did (img o p : List ℕ) (pos lim : ℕ) (x : Answer) (n : ℕ) (odd 
 -- no text that runs in the image: what a bit group says of its parts
 abbrev pub NoWords : Said → Type 0
 NoWords (said.Number x) = Unit {0}
-NoWords (said.Words from to) = ⊥
+NoWords (said.Words run) = ⊥
 NoWords (said.Text e) = Unit {0}
 NoWords said.Unchanged = Unit {0}
 NoWords said.Unknown = Unit {0}
@@ -87,7 +87,7 @@ noted_of odd r = record { said = r.said; visits = r.visits; malformed = odd || r
 -- a plain answer as it is said
 abbrev pub said_of : Plain → Said
 said_of (plain.Number x) = said.Number x
-said_of (plain.Words from to) = said.Words from to
+said_of (plain.Words run) = said.Words run
 said_of plain.Unchanged = said.Unchanged
 said_of plain.Unknown = said.Unknown
 said_of plain.Formula = said.Formula

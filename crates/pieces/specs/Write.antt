@@ -1,5 +1,6 @@
 -- What a run of writes leaves in a lent output (for inner contracts). Assumes nothing: these are definitions.
 use Rattle.std.specs.Prelude.{◌≡◌, List, ℕ, ◌+◌, ◌≤◌, ◌<◌, min, length, get_or}
+use Rattle.pieces.specs.declared.paste.Place.{Place}
 
 -- a place in an output of so much room, which stops one behind it
 abbrev pub sat : ℕ → ℕ → ℕ
@@ -17,7 +18,12 @@ pub record Wrote (o p : List ℕ) (pos lim : ℕ) (t : List ℕ) : Type 0 where
   pub above : (i : ℕ) → lim ≤ i → get_or p i 0 ≡ get_or o i 0
   pub text : (i : ℕ) → i < length t → pos + i < lim → get_or p (pos + i) 0 ≡ get_or t i 0
 
--- the same, and the place behind the text is r, or one behind the room
-pub record Put (o p : List ℕ) (pos lim : ℕ) (t : List ℕ) (r : ℕ) : Type 0 where
-  pub end : r ≡ sat (length o) (pos + length t)
-  pub wrote : Wrote o p pos lim t
+-- a place lies in an output, or one behind it, and its limit in it
+abbrev pub PlaceIn : List ℕ → Place → Type 0
+PlaceIn o at = (at.lim ≤ length o) × (at.pos ≤ length o + 1)
+
+-- the same, and r is the place behind the text, or one behind the room, with the same limit
+pub record Put (o p : List ℕ) (at : Place) (t : List ℕ) (r : Place) : Type 0 where
+  pub end : r.pos ≡ sat (length o) (at.pos + length t)
+  pub limit : r.lim ≡ at.lim
+  pub wrote : Wrote o p at.pos at.lim t

@@ -1,5 +1,6 @@
 -- A repaired block parses, to the fields that document 01 reads, and its references and values by place are the block's; a block in the writer's form
 -- comes back byte for byte; what is written is as long as what was read, and 30,000 bytes of room suffice. Assumes nothing.
+use Rattle.std.specs.Prelude.{is_some, Err, None, Ok, Option, Result, Some}
 use mathlib.Core.Path.{◌≡◌, refl, sym, ap, ◌∙◌}
 use mathlib.Core.Bool.{Bool, true, false}
 use mathlib.Core.List.{List, [], ◌++◌}
@@ -8,44 +9,43 @@ use native.Mathlib.Omega.{arith}
 use borrow.Author.Tests.{ltb-true, ltb-false}
 use lib.Dec.{T, ltb}
 use lib.ListN.{length, take}
-use lib.Ieee.{binary64, fits}
+use lib.Ieee.{binary64, of_bits}
 use lib.Ieee.Bits.{of_bits-fits}
 use Rattle.floats.specs.Kept.{kept_bits}
 use Rattle.floats.proofs.Kept.{kept_of_read}
 use Rattle.words.specs.Words.{word32, word64, value_at}
 use Rattle.words.proofs.Slices.{Bytes, length_words, word16_small, word64_small, words_small}
 use Rattle.blocks.specs.Block.{fixed_at, ref_count, fields_place, fields_at, val_count, is_ranged, range_size, range_at, values_place, block_end, block_at, parsed_for_repair, parsed}
-use Rattle.blocks.specs.Make.{range_of}
 use Rattle.blocks.specs.Place.{reference_of, value_word_of, references, value_words}
-use Rattle.common.specs.declared.refusal.Word.{Word}
-use Rattle.blocks.specs.declared.Range.{Range}
 use Rattle.blocks.specs.declared.Block.{Block}
-use Rattle.blocks.specs.declared.Parsed.{Parsed}
-use Rattle.blocks.specs.declared.Parsed.TheVariants.{Whole, Refused}
 use Rattle.blocks.proofs.Opening.{read_whole, read_parses}
 use Rattle.blocks.proofs.Places.{by_place}
 use Rattle.writer.specs.Write.{write_size, block_bytes, read_as_range}
-use Rattle.writer.specs.Stored.{stored_range, stored, Sized}
+use Rattle.writer.specs.Stored.{stored_range, stored, RangeFits, Sized}
 use Rattle.writer.proofs.Writing.{length_block}
 use Rattle.writer.proofs.Plain.{no_excess}
 use Rattle.writer.proofs.ParseWritten.{parse_written, references_written, values_written}
 use Rattle.writer.proofs.WriteParsed.{same_bytes}
 use Rattle.repair.specs.Repair.{repaired, with_four_links}
 use Rattle.repair.proofs.Reading.{references_fit, values_fit, no_padding, too_long, fitting}
+use Rattle.common.specs.declared.refusal.Refusal.{Refusal}
 
 -- ---- what was read has the size of its type
 module _ (img : List ℕ) (h : Bytes img) where
-  range_sized : (p : ℕ) (r : Bool)
-      → T (fits binary64 (range_at img p r).minimum) × T (fits binary64 (range_at img p r).maximum)
-      × ((range_at img p r).minword < 2 ^ 64) × ((range_at img p r).maxword < 2 ^ 64)
+  range_sized : (p : ℕ) (r : Bool) → RangeFits (range_at img p r)
   unfolding value_at
-  range_sized p true = (of_bits-fits binary64 _, of_bits-fits binary64 _, word64_small img h p, word64_small img h (p + 8))
-  range_sized p false = (of_bits-fits binary64 0, of_bits-fits binary64 0, omega arith, omega arith)
+  range_sized p true =
+      record {
+        minimum = of_bits-fits binary64 _;
+        maximum = of_bits-fits binary64 _;
+        minword = word64_small img h p;
+        maxword = word64_small img h (p + 8);
+      }
+  range_sized p false = tt
 
   read_sized : (a : ℕ) → Sized (block_at img a)
   unfolding block_at fixed_at fields_at
   read_sized a =
-      let range = range_sized (fields_place img a + 8) (is_ranged img a) in
       record {
         name = word64_small img h _;
         unit = word64_small img h _;
@@ -55,25 +55,22 @@ module _ (img : List ℕ) (h : Bytes img) where
         precision = h _;
         flags = word16_small img h _;
         refcount = word16_small img h _;
-        minimum = range.0;
-        maximum = range.1;
-        minword = range.2;
-        maxword = range.3;
+        range = range_sized (fields_place img a + 8) (is_ranged img a);
         reserved = (omega arith);
       }
 
   -- a range that was read is stored as it is, a NaN's words too
-  range_kept : (b : Block) (p : ℕ) (r : Bool) → range_of b ≡ range_at img p r → stored_range b b.ranged ≡ range_of b
+  range_kept : (p : ℕ) (r : Bool) → stored_range (range_at img p r) ≡ range_at img p r
   unfolding value_at
-  range_kept b p true e =
-      let ranged : b.ranged ≡ true = ap (λ (x : Range). x.ranged) e in
-      let low : kept_bits (range_at img p true).minimum (range_at img p true).minword ≡ word64 img p = kept_of_read (word64 img p) (word64_small img h p) in
-      let high : kept_bits (range_at img p true).maximum (range_at img p true).maxword ≡ word64 img (p + 8) = kept_of_read (word64 img (p + 8)) (word64_small img h (p + 8)) in
-      rw (ranged, ap (λ (x : Range). x.minimum) e, ap (λ (x : Range). x.maximum) e, ap (λ (x : Range). x.minword) e, ap (λ (x : Range). x.maxword) e, low, high)
-  range_kept b p false e = ap (stored_range b) (ap (λ (x : Range). x.ranged) e) ∙ sym e
+  range_kept p true =
+      let low : kept_bits (of_bits binary64 (word64 img p)) (word64 img p) ≡ word64 img p = kept_of_read (word64 img p) (word64_small img h p) in
+      let high : kept_bits (of_bits binary64 (word64 img (p + 8))) (word64 img (p + 8)) ≡ word64 img (p + 8) =
+      kept_of_read (word64 img (p + 8)) (word64_small img h (p + 8)) in
+      rw (low, high) refl
+  range_kept p false = refl
 
 -- ---- an input of at most 30,000 bytes, and the block that document 01 reads at its start
-module _ (input : List ℕ) (b : Block) (most : length input ≤ 30000) (whole : parsed_for_repair input 0 ≡ Whole b) where
+module _ (input : List ℕ) (b : Block) (most : length input ≤ 30000) (whole : parsed_for_repair input 0 ≡ Ok b) where
   same : b ≡ block_at input 0
   same = (read_whole input 0 b whole).same
 
@@ -86,15 +83,15 @@ module _ (input : List ℕ) (b : Block) (most : length input ≤ 30000) (whole :
   values_count = length_words input b.firstval b.valcount
 
   -- where its parts stand, and how long it is
-  ranged_is : range_size b.ranged ≡ range_size (is_ranged input 0)
+  ranged_is : range_size (is_some b.range) ≡ range_size (is_ranged input 0)
   unfolding block_at
   ranged_is = rw same (go (is_ranged input 0))
     where
-      go : (r : Bool) → range_size (range_at input (fields_place input 0 + 8) r).ranged ≡ range_size r
+      go : (r : Bool) → range_size (is_some (range_at input (fields_place input 0 + 8) r)) ≡ range_size r
       go true = refl
       go false = refl
 
-  firstval_is : b.firstval ≡ 64 + 8 * (b.links - 4) + range_size b.ranged
+  firstval_is : b.firstval ≡ 64 + 8 * (b.links - 4) + range_size (is_some b.range)
   unfolding block_at values_place fields_place ref_count
   firstval_is =
       let first : b.firstval ≡ values_place input 0 = ap (λ (x : Block). x.firstval) same in
@@ -104,7 +101,7 @@ module _ (input : List ℕ) (b : Block) (most : length input ≤ 30000) (whole :
   bare : (b.reserved ≡ 0) × (b.excess ≡ 0)
   bare = no_padding input 0 b whole
 
-  size_is : write_size b.ranged (b.links - 4) b.valcount b.excess ≡ block_end input 0
+  size_is : write_size (is_some b.range) (b.links - 4) b.valcount b.excess ≡ block_end input 0
   unfolding write_size block_at block_end val_count fields_at
   size_is =
       let first : b.firstval ≡ values_place input 0 = ap (λ (x : Block). x.firstval) same in
@@ -112,9 +109,9 @@ module _ (input : List ℕ) (b : Block) (most : length input ≤ 30000) (whole :
       omega (arith, firstval_is, first, values, bare.1)
 
   is_block : repaired input ≡ block_bytes b (references input b) (value_words input b)
-  is_block = fitting input most (Whole b) whole
+  is_block = fitting input most (Ok b) whole
 
-  fits_input : write_size b.ranged (length (references input b)) (length (value_words input b)) b.excess ≤ length input
+  fits_input : write_size (is_some b.range) (length (references input b)) (length (value_words input b)) b.excess ≤ length input
   unfolding write_size
   fits_input = omega (arith, refs_count, values_count, size_is, (read_whole input 0 b whole).fits)
 
@@ -140,12 +137,12 @@ module _ (input : List ℕ) (b : Block) (most : length input ≤ 30000) (whole :
     stored_is : stored 0 b (b.links - 4) b.valcount ≡ with_four_links b
     unfolding stored block_at
     stored_is =
-        let range = range_kept input bytes b (fields_place input 0 + 8) (is_ranged input 0) (rw same refl) in
+        let range : stored_range b.range ≡ b.range = rw same (range_kept input bytes (fields_place input 0 + 8) (is_ranged input 0)) in
         let firstref : b.firstref ≡ 56 = ap (λ (x : Block). x.firstref) same in
         cc (firstval_is, bare.1)
 
-    unread : read_as_range b.ranged b.excess ≡ false
-    unread = ap (read_as_range b.ranged) bare.1 ∙ no_excess b.ranged
+    unread : read_as_range (is_some b.range) b.excess ≡ false
+    unread = ap (read_as_range (is_some b.range)) bare.1 ∙ no_excess (is_some b.range)
 
     sized : Sized b
     sized = rw same (read_sized input bytes 0)
@@ -157,13 +154,13 @@ module _ (input : List ℕ) (b : Block) (most : length input ≤ 30000) (whole :
     kept_is = rw (refs_count, values_count) stored_is
 
     -- whatever stands behind it, it parses, to the block's own fields
-    pub repaired_parses : (rest : List ℕ) → parsed (repaired input ++ rest) 0 ≡ Whole (with_four_links b)
+    pub repaired_parses : (rest : List ℕ) → parsed (repaired input ++ rest) 0 ≡ Ok (with_four_links b)
     repaired_parses rest =
         rw is_block
-        (parse_written [] rest b (references input b) (value_words input b) sized few (omega (arith, fits_input)) unread ∙ ap Whole kept_is)
+        (parse_written [] rest b (references input b) (value_words input b) sized few (omega (arith, fits_input)) unread ∙ ap Ok kept_is)
 
     -- what a way of reading by place finds there
-    placed : (read : List ℕ → Block → ℕ → Word) (rest : List ℕ) (i : ℕ)
+    placed : (read : List ℕ → Block → ℕ → Option ℕ) (rest : List ℕ) (i : ℕ)
         → read (repaired input ++ rest) (with_four_links b) i ≡ read (block_bytes b (references input b) (value_words input b) ++ rest) kept i
     placed read rest i =
         ap (λ (x : Block). read (repaired input ++ rest) x i) (sym kept_is) ∙ ap (λ (l : List ℕ). read (l ++ rest) kept i) is_block
@@ -189,9 +186,9 @@ module _ (input : List ℕ) (b : Block) (most : length input ≤ 30000) (whole :
         is_block ∙ same_bytes input 0 b bytes (read_parses input 0 b whole enough) none (omega (arith, long))
 
 -- ---- 30,000 bytes of room suffice: a block is no longer than the input that it was read from, and a line has 10 bytes
-room_for : (input : List ℕ) → length input ≤ 30000 → (p : Parsed) → parsed_for_repair input 0 ≡ p → length (repaired input) ≤ 30000
-room_for input most (Whole b) e = omega (arith, as_long input b most e, (read_whole input 0 b e).fits)
-room_for input most (Refused r) e = omega (arith, ap length (fitting input most (Refused r) e))
+room_for : (input : List ℕ) → length input ≤ 30000 → (p : Result Block Refusal) → parsed_for_repair input 0 ≡ p → length (repaired input) ≤ 30000
+room_for input most (Ok b) e = omega (arith, as_long input b most e, (read_whole input 0 b e).fits)
+room_for input most (Err r) e = omega (arith, ap length (fitting input most (Err r) e))
 
 pub room_suffices : (input : List ℕ) → length (repaired input) ≤ 30000
 room_suffices input = go (ltb 30000 (length input)) refl

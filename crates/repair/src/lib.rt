@@ -9,13 +9,11 @@ ghost use Rattle.std.specs.Prelude.{◌≡◌, ◌+◌, ◌*◌, ◌≤◌};
 ghost use Rattle.std.proofs.Math.ListN as ListN;
 ghost use Rattle.words.specs.Words.{words as words_at};
 ghost use Rattle.blocks.specs.Block.{parsed_for_repair};
-ghost use Rattle.blocks.specs.declared.Parsed.TheVariants.{Whole};
 ghost use Rattle.common.specs.Written.{write_call, holding};
 ghost use Rattle.repair.specs.Repair.{refused_line, rewritten, repaired};
 
-use blocks::{Block, Parsed};
+use blocks::Block;
 use common::refusal::Refusal;
-use common::written::Written;
 
 // The most bytes of an input.
 const MOST: usize = 30000;
@@ -23,45 +21,44 @@ const MOST: usize = 30000;
 // The words that lie in so many.
 const WORDS: usize = 3750;
 
-// As many words of the input as `count` says, from `first` on.
-fn gather(input: &[u8], first: usize, count: usize, into: &mut [u64])
-    requires { (first + 8 * count ≤ ListN.length input.now) × (count ≤ ListN.length into.old) }
-    ensures { ListN.take count into.new ≡ words_at input.now first count }
+// The words of the input from `first` on, as many as there is room for.
+fn gather(input: &[u8], first: usize, room: &mut [u64])
+    requires { first + 8 * ListN.length room.old ≤ ListN.length input.now }
+    ensures { room.new ≡ words_at input.now first (ListN.length room.old) }
 {
-    let mut i = 0;
-    while i < count {
-        into[i] = words::u64_at(input, first + 8 * i);
-        i += 1;
+    for (i, word) in room.iter_mut().enumerate() {
+        *word = words::u64_at(input, first + 8 * i);
     }
 }
 
 // The block that was read from the input, written.
-fn rewrite(block: Block, input: &[u8], out: &mut [u8]) -> Written
-    requires { (ListN.length input.now ≤ 30000) × (parsed_for_repair input.now 0 ≡ Whole block) }
-    ensures { write_call result out.new ≡ holding (rewritten input.now (Whole block)) out.old }
+fn rewrite(block: Block, input: &[u8], out: &mut [u8]) -> Result<usize, Refusal>
+    requires { (ListN.length input.now ≤ 30000) × (parsed_for_repair input.now 0 ≡ Ok block) }
+    ensures { write_call result out.new ≡ holding (rewritten input.now (Ok block)) out.old }
 {
-    let mut refs = [0u64; WORDS];
-    let mut values = [0u64; WORDS];
-    let n = block.reference_count() as usize;
-    let m = block.valcount as usize;
-    gather(input, block.firstref as usize, n, &mut refs);
-    gather(input, block.firstval as usize, m, &mut values);
-    writer::write_words(block, &refs[..n], &values[..m], out)
+    // Fixed memory in place of a Vec: no heap.
+    let mut refs = [0; WORDS];
+    let refs = &mut refs[..block.reference_count() as usize];
+    gather(input, block.firstref as usize, refs);
+    let mut values = [0; WORDS];
+    let values = &mut values[..block.valcount as usize];
+    gather(input, block.firstval as usize, values);
+    writer::write_words(block, refs, values, out)
 }
 
 // A line, where the output has room for it.
-fn say(line: &[u8], out: &mut [u8]) -> Written
+fn say(line: &[u8], out: &mut [u8]) -> Result<usize, Refusal>
     ensures { write_call result out.new ≡ holding line.now out.old }
 {
     if out.len() < line.len() {
-        return Written::Unwritten(Refusal::Room);
+        return Err(Refusal::Room);
     }
     out[..line.len()].copy_from_slice(line);
-    Written::Bytes(line.len())
+    Ok(line.len())
 }
 
 // Why a block was not read. The number has one digit.
-fn say_refused(number: u8, out: &mut [u8]) -> Written
+fn say_refused(number: u8, out: &mut [u8]) -> Result<usize, Refusal>
     requires { number ≤ 9 }
     ensures { write_call result out.new ≡ holding (refused_line number) out.old }
 {
@@ -71,14 +68,14 @@ fn say_refused(number: u8, out: &mut [u8]) -> Written
 }
 
 // What is printed for an input.
-pub fn repair(input: &[u8], out: &mut [u8]) -> Written
+pub fn repair(input: &[u8], out: &mut [u8]) -> Result<usize, Refusal>
     ensures { write_call result out.new ≡ holding (repaired input.now) out.old }
 {
     if MOST < input.len() {
         return say(b"bad input\n", out);
     }
     match Block::parse_for_repair(input, 0) {
-        Parsed::Whole(block) => rewrite(block, input, out),
-        Parsed::Refused(r) => say_refused(r.number(), out),
+        Ok(block) => rewrite(block, input, out),
+        Err(r) => say_refused(r.number(), out),
     }
 }

@@ -3,17 +3,22 @@
 
 #![tactic(auto)]
 
-use common::written::Written;
 use repair::repair;
+use std::io::{self, Read};
 
-fn main() {
-    let mut input = io::large_buffer();
-    let n = io::read_full(0, &mut input);
-    let mut out = [0u8; 30000];
-    match repair(&input[..n], &mut out) {
-        Written::Bytes(k) => {
-            io::write_all(1, &out[..k]);
-        }
-        Written::Unwritten(_) => {}
+// The most bytes that are read, more than a block may have.
+const INPUT: u64 = 65536;
+
+// The most bytes that are written.
+const OUTPUT: usize = 30000;
+
+fn main(rt: HostRuntime) -> io::Result<()> {
+    let mut input = Vec::new(rt.alloc());
+    rt.reader().take(INPUT).read_to_end(&mut input)?;
+    // An array: the output has at most this size.
+    let mut out = [0; OUTPUT];
+    if let Ok(length) = repair(input.as_slice(), &mut out) {
+        rt.write_all(&out[..length])?;
     }
+    Ok(())
 }

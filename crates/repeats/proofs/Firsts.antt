@@ -2,7 +2,7 @@
 use mathlib.Core.Path.{◌≡◌, refl, sym, ap, ◌∙◌}
 use mathlib.Core.Bool.{Bool, true, false, ◌||◌, cond}
 use mathlib.Core.List.{List, [], ◌∷◌}
-use Prim.Native.Nat.{ℕ, zero, suc, ◌+◌, ◌-◌, ◌≤◌, ◌<◌}
+use Prim.Native.Nat.{ℕ, zero, suc, ◌+◌, ◌≤◌, ◌<◌}
 use native.Mathlib.Omega.{arith}
 use borrow.Author.Tests.{eq-eqb, eqb-true, eqb-false, ltb-true, ltb-false}
 use lib.Dec.{eqb, ltb}
@@ -58,22 +58,6 @@ module _ (img : List ℕ) (b : View) (i : ℕ) where
 
 -- ---- the first index that p holds of
 module _ (p : ℕ → Bool) where
-  step : (i n : ℕ) → 0 < n → first_of p i n ≡ cond (p i) i (first_of p (i + 1) (n - 1))
-  unfolding first_of
-  step i zero h = absurd (omega arith)
-  step i (suc n) h = let e : suc n - 1 ≡ n = omega arith in rw e
-
-  pub first_here : (i n : ℕ) → 0 < n → p i ≡ true → first_of p i n ≡ i
-  first_here i n h e = step i n h ∙ rw e
-
-  pub first_later : (i n m : ℕ) → 0 < n → n - 1 ≡ m → p i ≡ false → first_of p i n ≡ first_of p (i + 1) m
-  first_later i n m h k e = step i n h ∙ rw (e, k)
-
-  pub first_none : (i n : ℕ) → n ≤ 0 → first_of p i n ≡ i
-  unfolding first_of
-  first_none i zero h = refl
-  first_none i (suc n) h = absurd (omega arith)
-
   -- e is the first of n indexes from i on, or i + n
   pub record IsFirst (i n e : ℕ) : Type 0 where
     pub from : i ≤ e

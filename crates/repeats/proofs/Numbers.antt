@@ -8,7 +8,8 @@ use lib.ListN.{length, get_or, set}
 use lib.Seq.{get_or-set_same, get_or-set_other}
 use Rattle.blocks.specs.declared.view.View.{View}
 use Rattle.repeats.specs.Repeats.{text_at}
-use Rattle.repeats.specs.Scan.{in_common, Through, numbered, Kept, Agreed}
+use Rattle.repeats.specs.Scan.{in_common, Through, numbered, RowOf, no_row, Kept, Agreed}
+use Rattle.repeats.specs.declared.Row.{Row}
 use Rattle.repeats.proofs.Common.{in_common_none}
 
 module _ (img : List ℕ) (b : View) (start : ℕ) where
@@ -19,19 +20,17 @@ module _ (img : List ℕ) (b : View) (start : ℕ) where
   number_is (suc k) i h e = let f : start + k ≡ i = omega arith in ap (text_at img b) f
 
   -- ---- the text q held against the numbers in order
-  -- the number below k tells of k
-  pub through : (below shared marks : List ℕ) (m : ℕ) → Kept img b start below shared marks m
-      → (q agree : List ℕ) (k i : ℕ) → 0 < k → k < m → start + k ≡ i + 1 → Agreed img b start q agree k
-      → Through q (text_at img b i) (get_or agree (get_or below k 0) 0) (get_or shared k 0) (get_or marks k 0)
-  through below shared marks m kept q agree k i some less e agreed =
-      let w = kept k some less in
+  -- the row of k tells of k
+  pub through : (q agree : List ℕ) (r : Row) (k i : ℕ) → RowOf img b start k r → 0 < k → start + k ≡ i + 1 → Agreed img b start q agree k
+      → Through q (text_at img b i) (get_or agree r.below 0) r.shared r.mark
+  through q agree r k i w some e agreed =
       let n = number_is k i some e in
-      let p = numbered img b start (get_or below k 0) in
+      let p = numbered img b start r.below in
       record {
         third = p;
-        one = sym (agreed (get_or below k 0) w.0).0;
+        one = sym (agreed r.below w.0).0;
         other = ap (λ (t : List ℕ). in_common t p) (sym n) ∙ sym w.1;
-        behind = w.2 ∙ ap (λ (t : List ℕ). get_or t (get_or shared k 0) 0) n;
+        behind = w.2 ∙ ap (λ (t : List ℕ). get_or t r.shared 0) n;
       }
 
   pub agreed_none : (q agree : List ℕ) → 0 < length agree → Agreed img b start q (set agree 0 0) 1
@@ -49,37 +48,19 @@ module _ (img : List ℕ) (b : View) (start : ℕ) where
       (get_or-set_same agree k m 0 h ∙ sym new.0, λ p. new.1)
 
   -- ---- one number more
-  pub grown : (below shared marks q agree : List ℕ) (m j s w : ℕ) → m < length below → m < length shared → m < length marks
-      → j < m → s ≡ get_or agree j 0 → w ≡ get_or q s 0 → q ≡ numbered img b start m
-      → Agreed img b start q agree m → Kept img b start below shared marks m
-      → Kept img b start (set below m j) (set shared m s) (set marks m w) (m + 1)
-  grown below shared marks q agree m j s w lb ls lm less es ew e agreed kept k some last =
-      below_more
-      (λ (i : ℕ). 0 < i
-      → (get_or (set below m j) i 0 < i)
-      × (get_or (set shared m s) i 0 ≡ in_common (numbered img b start i) (numbered img b start (get_or (set below m j) i 0)))
-      × (get_or (set marks m w) i 0 ≡ get_or (numbered img b start i) (get_or (set shared m s) i 0) 0))
-      m old new k last some
-    where
-      old : (i : ℕ) → i < m → 0 < i
-          → (get_or (set below m j) i 0 < i)
-          × (get_or (set shared m s) i 0 ≡ in_common (numbered img b start i) (numbered img b start (get_or (set below m j) i 0)))
-          × (get_or (set marks m w) i 0 ≡ get_or (numbered img b start i) (get_or (set shared m s) i 0) 0)
-      old i l p =
-          rw (
-            get_or-set_other below m i j 0 (λ x. omega (arith, x)),
-            get_or-set_other shared m i s 0 (λ x. omega (arith, x)),
-            get_or-set_other marks m i w 0 (λ x. omega (arith, x)),
-          )
-          (kept i p l)
+  -- its row
+  pub row_more : (q agree : List ℕ) (m : ℕ) (r : Row) → q ≡ numbered img b start m → Agreed img b start q agree m
+      → r.below < m → r.shared ≡ get_or agree r.below 0 → r.mark ≡ get_or q r.shared 0 → RowOf img b start m r
+  row_more q agree m r e agreed less shared mark = (
+    less,
+    shared ∙ (agreed r.below less).0 ∙ ap (λ (t : List ℕ). in_common t (numbered img b start r.below)) e,
+    mark ∙ ap (λ (t : List ℕ). get_or t r.shared 0) e,
+  )
 
-      new : 0 < m
-          → (get_or (set below m j) m 0 < m)
-          × (get_or (set shared m s) m 0 ≡ in_common (numbered img b start m) (numbered img b start (get_or (set below m j) m 0)))
-          × (get_or (set marks m w) m 0 ≡ get_or (numbered img b start m) (get_or (set shared m s) m 0) 0)
-      new p =
-          rw (get_or-set_same below m j 0 lb, get_or-set_same shared m s 0 ls, get_or-set_same marks m w 0 lm) (
-            less,
-            es ∙ (agreed j less).0 ∙ ap (λ (t : List ℕ). in_common t (numbered img b start j)) e,
-            ew ∙ ap (λ (t : List ℕ). get_or t s 0) e,
-          )
+  pub kept_more : (rows : List Row) (m : ℕ) (r : Row) → m < length rows → Kept img b start rows m → RowOf img b start m r
+      → Kept img b start (set rows m r) (m + 1)
+  kept_more rows m r inner kept new k some last =
+      below_more (λ (i : ℕ). 0 < i → RowOf img b start i (get_or (set rows m r) i no_row)) m
+      (λ i l p. rw (get_or-set_other rows m i r no_row (λ x. omega (arith, x))) (kept i p l))
+      (λ p. rw (get_or-set_same rows m r no_row inner) new)
+      k last some

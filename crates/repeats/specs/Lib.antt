@@ -1,2 +1,3 @@
 pub mod Repeats
 pub mod Scan
+pub mod Chunk

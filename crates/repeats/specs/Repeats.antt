@@ -10,7 +10,7 @@ use Rattle.leads.specs.declared.lead.Lead.TheVariants.{Words, Nested, Nil, Elsew
 
 -- the text that a reference leads to; no text is as an empty one
 abbrev pub lead_text : List ℕ → Lead → List ℕ
-lead_text img (Words from to) = text_bytes img from to
+lead_text img (Words run) = text_bytes img run.from run.to
 lead_text img (Nested a) = []
 lead_text img Nil = []
 lead_text img Elsewhere = []

@@ -1,12 +1,11 @@
 -- For inner contracts: what the search for a repeated text keeps of the texts that it has seen. Assumes nothing: these are definitions.
-use Rattle.std.specs.Prelude.{ℕ, zero, suc, ◌+◌, ◌-◌, ◌*◌, ◌%◌, ◌≤◌, ◌<◌, ◌≡◌, Bool, true, false, cond, List, [], ◌∷◌, eqb, length, get_or}
+use Rattle.std.specs.Prelude.{ℕ, zero, suc, ◌+◌, ◌*◌, ◌%◌, ◌≤◌, ◌<◌, ◌≡◌, Bool, true, false, cond, List, [], ◌∷◌, eqb, get_or, Option, Some, None}
 use Rattle.words.specs.Words.{PartIn}
 use Rattle.common.specs.Text.{text_bytes}
 use Rattle.blocks.specs.declared.view.View.{View}
 use Rattle.repeats.specs.Repeats.{text_at}
-use Rattle.repeats.specs.declared.Run.{Run}
-use Rattle.repeats.specs.declared.Met.{Met}
-use Rattle.repeats.specs.declared.Met.TheVariants.{Same, Upto}
+use Rattle.common.specs.declared.text.Span.{Span}
+use Rattle.repeats.specs.declared.Row.{Row}
 
 -- how many leading bytes two texts have in common
 unfoldable pub in_common : List ℕ → List ℕ → ℕ
@@ -15,21 +14,21 @@ in_common (x ∷ xs) [] = 0
 in_common (x ∷ xs) (y ∷ ys) = cond (eqb x y) (suc (in_common xs ys)) 0
 
 -- the text of a run, and that the run lies in the image
-unfoldable pub run_text : List ℕ → Run → List ℕ
+unfoldable pub run_text : List ℕ → Span → List ℕ
 run_text img t = text_bytes img t.from t.to
 
-abbrev pub RunIn : List ℕ → Run → Type 0
+abbrev pub RunIn : List ℕ → Span → Type 0
 RunIn img t = PartIn img t.from t.to
 
 -- the run of the i-th text
-pub record RunOf (img : List ℕ) (b : View) (i : ℕ) (t : Run) : Type 0 where
+pub record RunOf (img : List ℕ) (b : View) (i : ℕ) (t : Span) : Type 0 where
   pub inner : RunIn img t
   pub text : run_text img t ≡ text_at img b i
 
--- two texts compared: the same, or so many bytes in common and not the same
-abbrev pub MetBy : List ℕ → List ℕ → Met → Type 0
-MetBy q t Same = q ≡ t
-MetBy q t (Upto m) = (in_common q t ≡ m) × (q ≡ t → ⊥)
+-- two texts compared: so many bytes in common and not the same, or the same
+abbrev pub MetBy : List ℕ → List ℕ → Option ℕ → Type 0
+MetBy q t (Some m) = (in_common q t ≡ m) × (q ≡ t → ⊥)
+MetBy q t None = q ≡ t
 
 -- what is known of two texts by a third: q has a bytes in common with it and t has s, behind which t has the byte `mark`
 pub record Through (q t : List ℕ) (a s mark : ℕ) : Type 0 where
@@ -43,17 +42,20 @@ unfoldable pub numbered : List ℕ → View → ℕ → ℕ → List ℕ
 numbered img b start zero = []
 numbered img b start (suc k) = text_at img b (start + k)
 
--- what is kept of the numbers under m: a number below, how much the two texts have in common, and the byte behind that
-abbrev pub Kept : List ℕ → View → ℕ → List ℕ → List ℕ → List ℕ → ℕ → Type 0
-Kept img b start below shared marks m =
-    (k : ℕ) → 0 < k → k < m
-    → (get_or below k 0 < k)
-    × (get_or shared k 0 ≡ in_common (numbered img b start k) (numbered img b start (get_or below k 0)))
-    × (get_or marks k 0 ≡ get_or (numbered img b start k) (get_or shared k 0) 0)
+-- what is kept of a number: a number below, how much the two texts have in common, and the byte behind that
+abbrev pub RowOf : List ℕ → View → ℕ → ℕ → Row → Type 0
+RowOf img b start k r =
+    (r.below < k)
+    × (r.shared ≡ in_common (numbered img b start k) (numbered img b start r.below))
+    × (r.mark ≡ get_or (numbered img b start k) r.shared 0)
 
--- the four arrays of a chunk have a place for each number
-abbrev pub Rows : List ℕ → List ℕ → List ℕ → List ℕ → Type 0
-Rows below shared marks agree = (length below ≡ 256) × (length shared ≡ 256) × (length marks ≡ 256) × (length agree ≡ 256)
+-- the row where there is none
+abbrev pub no_row : Row
+no_row = record { below = 0; mark = 0; shared = 0 }
+
+-- the rows of the numbers under m
+abbrev pub Kept : List ℕ → View → ℕ → List Row → ℕ → Type 0
+Kept img b start rows m = (k : ℕ) → 0 < k → k < m → RowOf img b start k (get_or rows k no_row)
 
 -- how much the text q has in common with each number under m; it is the text of none
 abbrev pub Agreed : List ℕ → View → ℕ → List ℕ → List ℕ → ℕ → Type 0
@@ -93,16 +95,6 @@ Hashed img b start m hashes = (k : ℕ) → k < m → get_or hashes k 0 ≡ hash
 abbrev pub NoneIs : List ℕ → ℕ → ℕ → Bool → Type 0
 NoneIs hashes m h r = r ≡ false → (k : ℕ) → k < m → get_or hashes k 0 ≡ h → ⊥
 
--- none of the first m numbers passes the length of q
-abbrev pub Within : List ℕ → List ℕ → ℕ → Type 0
-Within q agree m = (k : ℕ) → k < m → get_or agree k 0 ≤ length q
-
--- a text that is new in the chunk gets the number m: what is kept of the numbers before it is kept of it, too
-abbrev pub Grown : List ℕ → List ℕ → List ℕ → ℕ → List ℕ → List ℕ → List ℕ → List ℕ → List ℕ → List ℕ → Type 0
-Grown img q agree m below shared marks below' shared' marks' =
-    (b : View) (start : ℕ) → q ≡ numbered img b start m → Agreed img b start q agree m → Kept img b start below shared marks m
-    → Kept img b start below' shared' marks' (m + 1)
-
 -- no text under the index r is equal to an earlier one from low up to high
 abbrev pub Apart : List ℕ → View → ℕ → ℕ → ℕ → Type 0
 Apart img b low high r = (i j : ℕ) → i < r → j < i → low ≤ j → j < high → text_at img b j ≡ text_at img b i → ⊥
@@ -122,12 +114,6 @@ pub record FirstRepeat (img : List ℕ) (b : View) (low high bound r : ℕ) : Ty
   pub most : r ≤ bound
   pub apart : Apart img b low high r
   pub again : r < bound → Again img b r
-
--- the chunk's own texts gone through up to r
-pub record Filled (img : List ℕ) (b : View) (start stop : ℕ) (below shared marks : List ℕ) (r : ℕ) : Type 0 where
-  pub least : start ≤ r
-  pub first : FirstRepeat img b start stop stop r
-  pub kept : Kept img b start below shared marks (r - start + 1)
 
 -- the texts behind the chunk gone through up to r
 pub record Gone (img : List ℕ) (b : View) (start stop bound r : ℕ) : Type 0 where

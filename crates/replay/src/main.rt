@@ -9,61 +9,38 @@
 
 #![tactic(auto)]
 
-mod say;
+mod record;
+mod said;
 
-use conversion::logic::apply;
-use lines::parts::{part, room, word};
-use lines::request::Request;
-use std::num::wrapping_add_usize;
+use lines::request::numbers;
+use record::{BUFFER, Record, read, read_full};
+use said::Said;
+use std::io;
 
-// The bytes of the numbers before a record's text and image.
-const HEAD: usize = 56;
+// The most bytes of a text that is an answer.
+const ROOM: usize = 4096;
 
-// Where the text of the record ends and its image begins.
-fn text_end(record: &[u8]) -> usize {
-    wrapping_add_usize(HEAD, word(record, 40) as usize)
+// The line of a record. The room that it asks for is the front of `out`.
+fn answer(rt: &impl Print, record: Record<'_>, out: &mut [u8]) -> io::Result<()> {
+    let room = record.request.room.min(out.len());
+    let lent = &mut out[..room];
+    let applied = record.request.ask(record.image, record.text, lent);
+    let said = Said::new(applied.answer, record.request.value, record.text, lent);
+    println!(rt; "{said} {}", applied.checked)
 }
 
-fn image_end(record: &[u8]) -> usize {
-    wrapping_add_usize(text_end(record), word(record, 48) as usize)
-}
-
-// A record is read to the start of the buffer. Answers whether it was there, whole.
-fn read(buf: &mut [u8]) -> bool {
-    let n = io::read_full(0, room(buf, 0, HEAD));
-    let end = image_end(buf);
-    let rest = io::read_full(0, room(buf, HEAD, end));
-    wrapping_add_usize(n, rest) == end
-}
-
-// The answer of a record. The room that it asks for is the front of `out`.
-fn answer(record: &[u8], out: &mut [u8]) {
-    let r = Request::read(record);
-    let mid = text_end(record);
-    let text = part(record, HEAD, mid);
-    let image = part(record, mid, image_end(record));
-    let lent = room(out, 0, r.room);
-    let v = r.value;
-    let a = apply(image, r.address, r.limit, v, text, lent);
-    say::line(a, v, text, lent);
-}
-
-fn records(count: u64, buf: &mut [u8], out: &mut [u8]) {
-    let mut left = count;
-    while 0 < left {
-        if !read(buf) {
-            say::cut_off();
-            return;
+fn main(rt: HostRuntime) -> io::Result<()> {
+    let mut input = rt.reader();
+    // Arrays: a record and a text have at most these sizes.
+    let mut buffer = [0; BUFFER];
+    let mut out = [0; ROOM];
+    read_full(&mut input, &mut buffer[..8])?;
+    let [count] = numbers::<1>(&buffer);
+    for _ in 0..count {
+        if !read(&mut input, &mut buffer)? {
+            return println!(rt; "record cut off");
         }
-        answer(buf, out);
-        left -= 1;
+        answer(&rt, Record::new(&buffer), &mut out)?;
     }
-}
-
-fn main() {
-    let mut buf = io::large_buffer();
-    let mut out = io::buffer();
-    io::read_full(0, room(&mut buf, 0, 8));
-    let count = word(&buf, 0);
-    records(count, &mut buf, &mut out);
+    Ok(())
 }

@@ -1,5 +1,6 @@
 -- What is set behind an image changes nothing of the numbers and texts that lie in it. Assumes nothing.
-use mathlib.Core.Path.{◌≡◌, refl, sym, ap, ◌∙◌}
+use Rattle.std.specs.Prelude.{None, Option, Some}
+use mathlib.Core.Path.{◌≡◌, refl, sym, ap, ap₂, ◌∙◌}
 use mathlib.Core.Bool.{Bool, true, false, not, ◌&&◌, cond}
 use mathlib.Core.List.{List, ◌++◌}
 use Prim.Native.Nat.{ℕ, ◌+◌, ◌-◌, ◌≤◌}
@@ -14,36 +15,37 @@ use Rattle.common.specs.Header.{inside, text_id, has_id, conversion_id, is_conve
 use Rattle.common.specs.Text.{until_zero, is_whole_text, run_at, run_of, text_bytes}
 use Rattle.common.proofs.Headers.{inside_fits}
 use Rattle.common.proofs.Texts.{run_inside, run_whole}
-use Rattle.common.specs.declared.text.Text.TheVariants.{Part, NoText}
+use Rattle.common.specs.declared.text.Span.{Span}
 
 -- what is told by a link's run: the link is not NIL, and a whole ##TX stands there
-pub record IsRun (img : List ℕ) (link from to : ℕ) : Type 0 where
+pub record IsRun (img : List ℕ) (link : ℕ) (run : Span) : Type 0 where
   pub linked : link ≡ 0 → ⊥
   pub header : link + 24 ≤ length img
   pub id : word32 img link ≡ text_id
   pub long : 24 ≤ word64 img (link + 8)
   pub within : link + word64 img (link + 8) ≤ length img
-  pub start : from ≡ link + 24
-  pub end : to ≡ link + word64 img (link + 8)
+  pub start : run.from ≡ link + 24
+  pub end : run.to ≡ link + word64 img (link + 8)
 
-pub is_run : (img : List ℕ) (link from to : ℕ) → run_of img link ≡ Part from to → IsRun img link from to
+pub is_run : (img : List ℕ) (link : ℕ) (run : Span) → run_of img link ≡ Some run → IsRun img link run
 unfolding run_of run_at is_whole_text has_id
-is_run img link from to =
+is_run img link run =
     go (eqb link 0) refl (inside img link) refl (eqb (word32 img link) text_id) refl (leb 24 (word64 img (link + 8))) refl
     (leb (link + word64 img (link + 8)) (length img)) refl
   where
     go : (z : Bool) → eqb link 0 ≡ z → (i : Bool) → inside img link ≡ i → (t : Bool) → eqb (word32 img link) text_id ≡ t
         → (u : Bool) → leb 24 (word64 img (link + 8)) ≡ u → (v : Bool) → leb (link + word64 img (link + 8)) (length img) ≡ v
-        → cond (not z && i) (cond (t && u && v) (Part (link + 24) (link + word64 img (link + 8))) NoText) NoText ≡ Part from to → IsRun img link from to
+        → cond (not z && i) (cond (t && u && v) (Some (record { from = link + 24; to = link + word64 img (link + 8) })) None) None ≡ Some run → IsRun img link run
     go false p true q true r true s true w e =
+        let there : run ≡ record { from = link + 24; to = link + word64 img (link + 8) } = cc in
         record {
           linked = eqb-false link 0 p;
           header = inside_fits img link q;
           id = eqb-true (word32 img link) text_id r;
           long = leb-true 24 (word64 img (link + 8)) s;
           within = leb-true (link + word64 img (link + 8)) (length img) w;
-          start = cc;
-          end = cc;
+          start = ap (λ (s : Span). s.from) there;
+          end = ap (λ (s : Span). s.to) there;
         }
     go false p true q true r true s false w e = clash cc
     go false p true q true r false s v w e = clash cc
@@ -71,26 +73,26 @@ module _ (xs ys : List ℕ) where
       ap (λ (s : List ℕ). until_zero (take (to - from) s)) (drop-append-le from xs ys (omega arith)) ∙ ap until_zero (take-append-le (to - from) (drop from xs) ys few)
 
   -- a text that a link leads to, and that what stands there is no conversion
-  module _ (link from to : ℕ) (run : IsRun xs link from to) where
+  module _ (link : ℕ) (run : Span) (is : IsRun xs link run) where
     size_first : word64 (xs ++ ys) (link + 8) ≡ word64 xs (link + 8)
-    size_first = word64_first (link + 8) (omega (arith, run.header))
+    size_first = word64_first (link + 8) (omega (arith, is.header))
 
     id_first : word32 (xs ++ ys) link ≡ text_id
-    id_first = word32_first link (omega (arith, run.header)) ∙ run.id
+    id_first = word32_first link (omega (arith, is.header)) ∙ is.id
 
     longer : length (xs ++ ys) ≡ length xs + length ys
     longer = length-append xs ys
 
-    pub run_first : run_of (xs ++ ys) link ≡ Part from to
+    pub run_first : run_of (xs ++ ys) link ≡ Some run
     unfolding inside has_id
     run_first =
-        let here : inside (xs ++ ys) link ≡ true = le-leb (link + 24) (length (xs ++ ys)) (omega (arith, run.header, longer)) in
+        let here : inside (xs ++ ys) link ≡ true = le-leb (link + 24) (length (xs ++ ys)) (omega (arith, is.header, longer)) in
         let tx : has_id text_id (xs ++ ys) link ≡ true = eq-eqb (word32 (xs ++ ys) link) text_id id_first in
-        let start : link + 24 ≡ from = sym run.start in
-        let end : link + word64 (xs ++ ys) (link + 8) ≡ to = ap (λ (k : ℕ). link + k) size_first ∙ sym run.end in
-        run_inside (xs ++ ys) link run.linked here
-        ∙ run_whole text_id (xs ++ ys) link tx (omega (arith, size_first, run.long)) (omega (arith, size_first, run.within, longer))
-        ∙ ap (λ (k : ℕ). Part k (link + word64 (xs ++ ys) (link + 8))) start ∙ ap (Part from) end
+        let start : link + 24 ≡ run.from = sym is.start in
+        let end : link + word64 (xs ++ ys) (link + 8) ≡ run.to = ap (λ (k : ℕ). link + k) size_first ∙ sym is.end in
+        run_inside (xs ++ ys) link is.linked here
+        ∙ run_whole text_id (xs ++ ys) link tx (omega (arith, size_first, is.long)) (omega (arith, size_first, is.within, longer))
+        ∙ ap₂ (λ (from to : ℕ). Some (record { from = from; to = to })) start end
 
     pub no_conversion : is_conversion (xs ++ ys) link ≡ false
     unfolding is_conversion

@@ -1,5 +1,6 @@
 -- What is known where an inverse block was made: the block that it was made from has type 7 and keys without a fault, and the output begins with the new
 -- block; and request [7]'s promise of what was made. Assumes nothing.
+use Rattle.std.specs.Prelude.{Err, Ok, Result}
 use mathlib.Core.Path.{◌≡◌, refl, sym, ap, ◌∙◌}
 use mathlib.Core.Bool.{Bool, true, false, cond}
 use mathlib.Core.List.{List, [], ◌++◌, append-nil}
@@ -15,18 +16,13 @@ use Rattle.words.proofs.Slices.{Bytes, length_words}
 use Rattle.common.specs.Written.{WriteCall, write_call, holding}
 use Rattle.common.proofs.Holding.{held}
 use Rattle.common.specs.declared.refusal.Refusal.TheVariants.{WrongType}
-use Rattle.common.specs.declared.written.Written.TheVariants as written
 use Rattle.blocks.specs.Block.{parsed}
 use Rattle.blocks.specs.View.{view_of}
 use Rattle.blocks.specs.declared.Block.{Block}
-use Rattle.blocks.specs.declared.Parsed.{Parsed}
-use Rattle.blocks.specs.declared.Parsed.TheVariants.{Whole, Refused}
 use Rattle.writer.specs.Write.{block_bytes}
 use Rattle.repeats.specs.Repeats.{text_at}
 use Rattle.keys.specs.Keys.{key_at, first_fault}
 use Rattle.inverse.specs.Invert.{inverse_of, inverse_bytes, unless_faulty, inverted, inverted_as, inverting}
-use Rattle.keys.specs.declared.Fault.{Fault}
-use Rattle.keys.specs.declared.Fault.TheVariants.{Faulty, Faultless}
 use Rattle.keys.proofs.Faults.{references_enough}
 use Rattle.inverse.proofs.Writing.{length_inverse, block_is}
 use Rattle.rules.specs.declared.number.Value.TheVariants as given
@@ -34,6 +30,7 @@ use Rattle.steps.specs.declared.mode.Mode.{Mode}
 use Rattle.conversion.specs.Entry.{applying}
 use Rattle.conversion.specs.declared.logic.Answer.TheVariants as answer
 use Rattle.restored.proofs.Restored.{once, key_restored, same_bits, other_unknown}
+use Rattle.common.specs.declared.refusal.Refusal.{Refusal}
 
 -- the new block's bytes
 abbrev pub new_block : List ℕ → Block → List ℕ
@@ -41,7 +38,7 @@ new_block img b = block_bytes (inverse_of b) (words img b.firstref b.valcount) (
 
 pub record Made (img : List ℕ) (a : ℕ) (out : List ℕ) (n : ℕ) (b : Block) : Type 0 where
   pub kind : b.kind ≡ 7
-  pub sound : first_fault img (view_of b) 0 b.valcount ≡ Faultless
+  pub sound : first_fault img (view_of b) 0 b.valcount ≡ (Ok tt)
   pub size : n ≡ 64 + 16 * b.valcount
   pub output : (inverting img a out).output ≡ new_block img b ++ drop n out
 
@@ -50,30 +47,30 @@ length_of img b =
     let n = b.valcount in
     length_inverse b (words img b.firstref n) (words img b.firstval n) n (length_words img b.firstref n) (length_words img b.firstval n)
 
-module _ (img : List ℕ) (a : ℕ) (out : List ℕ) (n : ℕ) (answered : (inverting img a out).result ≡ written.Bytes n) where
+module _ (img : List ℕ) (a : ℕ) (out : List ℕ) (n : ℕ) (answered : (inverting img a out).result ≡ Ok n) where
   -- only a block that parses has an inverse
-  pub made_from : (b : Block) × (parsed img a ≡ Whole b)
+  pub made_from : (b : Block) × (parsed img a ≡ Ok b)
   unfolding inverting
   made_from = go (parsed img a) refl answered
     where
-      go : (p : Parsed) → parsed img a ≡ p → (inverted_as img a p out).result ≡ written.Bytes n → (b : Block) × (parsed img a ≡ Whole b)
-      go (Whole b) e q = (b, e)
-      go (Refused r) e q = clash cc
+      go : (p : Result Block Refusal) → parsed img a ≡ p → (inverted_as img a p out).result ≡ Ok n → (b : Block) × (parsed img a ≡ Ok b)
+      go (Ok b) e q = (b, e)
+      go (Err r) e q = clash cc
 
-  module _ (b : Block) (whole : parsed img a ≡ Whole b) where
+  module _ (b : Block) (whole : parsed img a ≡ Ok b) where
     same : inverting img a out ≡ inverted img a b out
     unfolding inverting
-    same = ap (λ (p : Parsed). inverted_as img a p out) whole
+    same = ap (λ (p : Result Block Refusal). inverted_as img a p out) whole
 
     pub made : Made img a out n b
     unfolding inverted
     made = go (eqb b.kind 7) refl (first_fault img (view_of b) 0 b.valcount) refl same
       where
-        go : (k : Bool) → eqb b.kind 7 ≡ k → (f : Fault) → first_fault img (view_of b) 0 b.valcount ≡ f
-            → inverting img a out ≡ cond k (unless_faulty f (inverse_bytes img b) out) (write_call (written.Unwritten (WrongType a)) out) → Made img a out n b
-        go false p f q e = let other : written.Bytes n ≡ written.Unwritten (WrongType a) = sym answered ∙ ap (λ (c : WriteCall). c.result) e in clash cc
-        go true p (Faulty r) q e = let other : written.Bytes n ≡ written.Unwritten r = sym answered ∙ ap (λ (c : WriteCall). c.result) e in clash cc
-        go true p Faultless q e =
+        go : (k : Bool) → eqb b.kind 7 ≡ k → (f : Result Unit Refusal) → first_fault img (view_of b) 0 b.valcount ≡ f
+            → inverting img a out ≡ cond k (unless_faulty f (inverse_bytes img b) out) (write_call (Err (WrongType a)) out) → Made img a out n b
+        go false p f q e = let other : Ok n ≡ Err (WrongType a) = sym answered ∙ ap (λ (c : WriteCall). c.result) e in clash cc
+        go true p (Err r) q e = let other : Ok n ≡ Err r = sym answered ∙ ap (λ (c : WriteCall). c.result) e in clash cc
+        go true p (Ok tt) q e =
             let block = block_is img a b whole (references_enough img (view_of b) b.valcount q) in
             let holds = held (new_block img b) out (inverting img a out).result n (inverting img a out).output (e ∙ ap (λ (bytes : List ℕ). holding bytes out) block) answered in
             record {

@@ -1,5 +1,6 @@
 -- Request [7]: "Set behind the end of the old image and applied there with a limit of 1 or more to any key's text, the new block gives that key", and
 -- any other text is Unknown. Assumes nothing.
+use Rattle.std.specs.Prelude.{Err, Float, None, Ok, Option, Result, Some}
 use mathlib.Core.Path.{◌≡◌, refl, sym, ap, subst, ◌∙◌}
 use mathlib.Core.Bool.{Bool, true, false, cond}
 use mathlib.Core.List.{List, [], ◌∷◌, ◌++◌, append_assoc}
@@ -9,7 +10,7 @@ use borrow.Author.Tests.{ltb-true, ltb-false, ne_eqb}
 use lib.Dec.{ltb, eqb}
 use lib.ListN.{length}
 use lib.Ieee.{binary64, to_bits}
-use lib.Ieee.Bits.{of_bits-fits, to_bits-of_bits}
+use lib.Ieee.Bits.{to_bits-of_bits}
 use Rattle.floats.proofs.Nan.{not_true}
 use Rattle.words.specs.Words.{word64, words, value_at}
 use Rattle.words.proofs.Clash.{clash}
@@ -19,20 +20,11 @@ use Rattle.common.specs.Text.{run_of, text_bytes}
 use Rattle.common.specs.Types.{type_of}
 use Rattle.common.specs.declared.types.ConversionType.{ConversionType}
 use Rattle.common.specs.declared.types.ConversionType.TheVariants as kind
-use Rattle.common.specs.declared.text.Text.{Text}
-use Rattle.common.specs.declared.text.Text.TheVariants.{Part, NoText}
-use Rattle.common.specs.declared.refusal.Word.{Word}
-use Rattle.common.specs.declared.refusal.Word.TheVariants.{Bits, NoWord}
 use Rattle.blocks.specs.Block.{fixed_at, fields_at, fields_place, block_at, opened, parsed}
 use Rattle.blocks.specs.Place.{word_in, reference_of, value_word_of, references, word_at, as_value}
 use Rattle.blocks.specs.View.{view_of, seen_of, seen, reference_in, value_word_in, value_in}
 use Rattle.blocks.specs.declared.Block.{Block}
-use Rattle.blocks.specs.declared.Number.{Number}
-use Rattle.blocks.specs.declared.Number.TheVariants.{Value, NoValue}
-use Rattle.blocks.specs.declared.Parsed.TheVariants.{Whole}
 use Rattle.blocks.specs.declared.view.View.{View}
-use Rattle.blocks.specs.declared.view.Seen.{Seen}
-use Rattle.blocks.specs.declared.view.Seen.TheVariants.{Open}
 use Rattle.blocks.proofs.Opening.{parsed_whole, parsed_is_read, opened_whole}
 use Rattle.blocks.proofs.Places.{word_there, word_past_count, by_place, reference_there, references_read}
 use Rattle.leads.specs.Lead.{nested_at, lead_of, lead_at, by_text, by_link}
@@ -44,13 +36,11 @@ use Rattle.writer.proofs.ParseWritten.{parse_written, references_written, values
 use Rattle.repeats.specs.Repeats.{lead_text, text_at, text_repeated, first_of}
 use Rattle.keys.specs.Keys.{key_at, is_empty, first_fault}
 use Rattle.inverse.specs.Invert.{inverse_of, KeyPlaces}
-use Rattle.keys.specs.declared.Fault.TheVariants.{Faultless}
 use Rattle.repeats.proofs.Firsts.{same_itself, same_is, among_some, is_first}
 use Rattle.keys.proofs.Faults.{all_sound, IsSound, sound_is, references_enough}
 use Rattle.inverse.proofs.Writing.{key_places}
 use Rattle.tree.specs.Walk.{checked}
 use Rattle.tree.specs.Tree.{leads_in, sizes, size, Each, Sound}
-use Rattle.tree.specs.declared.Checked.TheVariants.{Accepted}
 use Rattle.tree.proofs.Converse.{accepted_when}
 use Rattle.rules.specs.declared.number.Value.TheVariants as given
 use Rattle.steps.specs.Plain.{or_unknown}
@@ -63,6 +53,7 @@ use Rattle.conversion.specs.declared.logic.Answer.{Answer}
 use Rattle.conversion.specs.declared.logic.Answer.TheVariants as answer
 use Rattle.conversion.proofs.Demand.{after_check}
 use Rattle.restored.proofs.Appended.{IsRun, is_run, bytes_first, run_first, no_conversion}
+use Rattle.common.specs.declared.text.Span.{Span}
 
 -- ---- a text that is not the same
 not_same : (xs ys : List ℕ) → (xs ≡ ys → ⊥) → same_bytes xs ys ≡ false
@@ -89,26 +80,25 @@ no_text_nested img link = go (inside img link) (is_conversion img link)
     go false y = refl
 
 record GivesText (img : List ℕ) (link : ℕ) : Type 0 where
-  from : ℕ
-  to : ℕ
-  run : run_of img link ≡ Part from to
-  lead : lead_of img link ≡ Words from to
+  run : Span
+  runs : run_of img link ≡ Some run
+  lead : lead_of img link ≡ Words run
 
 gives_text : (img : List ℕ) (link : ℕ) → is_empty (lead_text img (lead_of img link)) ≡ false → GivesText img link
 unfolding lead_of
 gives_text img link = go (eqb link 0) refl (run_of img link) refl
   where
-    go : (z : Bool) → eqb link 0 ≡ z → (t : Text) → run_of img link ≡ t → is_empty (lead_text img (cond z Nil (by_text t (nested_at img link)))) ≡ false
+    go : (z : Bool) → eqb link 0 ≡ z → (t : Option Span) → run_of img link ≡ t → is_empty (lead_text img (cond z Nil (by_text t (nested_at img link)))) ≡ false
         → GivesText img link
     go true p t q e = clash cc
-    go false p (Part from to) q e = record { from = from; to = to; run = q; lead = rw (p, q) }
-    go false p NoText q e =
+    go false p (Some run) q e = record { run = run; runs = q; lead = rw (p, q) }
+    go false p None q e =
         let none : is_empty (lead_text img (nested_at img link)) ≡ true = ap is_empty (no_text_nested img link) in
         clash cc
 
 -- ---- references that all lead to texts: a tree of one block
 module _ (img : List ℕ) (P : ℕ → Type 0) (g : ℕ → ℕ) where
-  none_nested : (rs : List ℕ) → ((i r : ℕ) → word_at rs i ≡ Bits r → leads_in img r ≡ false) → Each P (leads_in img) rs × (sizes g (leads_in img) rs ≡ 0)
+  none_nested : (rs : List ℕ) → ((i r : ℕ) → word_at rs i ≡ Some r → leads_in img r ≡ false) → Each P (leads_in img) rs × (sizes g (leads_in img) rs ≡ 0)
   unfolding Each sizes word_at
   none_nested [] h = (tt, refl)
   none_nested (r ∷ rs) h =
@@ -121,8 +111,8 @@ abbrev pub once : Answer → List ℕ → Call
 once r o = call (record { answer = r; checked = 1; applied = 1; malformed = false }) o
 
 -- ---- the new block behind the image that it was made from; whatever stands between them, and behind the new block, plays no part
-module _ (img : List ℕ) (h : Bytes img) (a : ℕ) (b : Block) (whole : parsed img a ≡ Whole b)
-    (sound : first_fault img (view_of b) 0 b.valcount ≡ Faultless) (gap rest : List ℕ) where
+module _ (img : List ℕ) (h : Bytes img) (a : ℕ) (b : Block) (whole : parsed img a ≡ Ok b)
+    (sound : first_fault img (view_of b) 0 b.valcount ≡ (Ok tt)) (gap rest : List ℕ) where
   abbrev n : ℕ
   n = b.valcount
 
@@ -163,17 +153,14 @@ module _ (img : List ℕ) (h : Bytes img) (a : ℕ) (b : Block) (whole : parsed 
         precision = rw same (h (fields_place img a + 1));
         flags = rw same (word16_small img h (fields_place img a + 2));
         refcount = rw same (word16_small img h (fields_place img a + 6));
-        minimum = of_bits-fits binary64 0;
-        maximum = of_bits-fits binary64 0;
-        minword = omega arith;
-        maxword = omega arith;
+        range = tt;
         reserved = omega arith;
       }
 
   counts : (length refs ≡ n) × (length values ≡ n)
   counts = (length_words img b.firstref n, length_words img b.firstval n)
 
-  parses : parsed image place ≡ Whole new
+  parses : parsed image place ≡ Ok new
   unfolding write_size
   parses =
       parse_written (img ++ gap) rest (inverse_of b) refs values sized (omega (arith, counts.1, sized.refcount)) (omega (arith, counts.0, counts.1, sized.refcount)) refl
@@ -206,71 +193,71 @@ module _ (img : List ℕ) (h : Bytes img) (a : ℕ) (b : Block) (whole : parsed 
     unlike : text_repeated img (view_of b) i ≡ true → ⊥
     unlike e = let not-again = key_sound.unlike in clash cc
 
-    old_reference : reference_in img (view_of b) i ≡ Bits link
+    old_reference : reference_in img (view_of b) i ≡ Some link
     unfolding reference_in reference_of
     old_reference = reference_there img a b whole i (omega (arith, less, few))
 
-    new_reference : reference_in image (view_of new) i ≡ Bits link
+    new_reference : reference_in image (view_of new) i ≡ Some link
     new_reference = reference_is i ∙ word_there img b.firstref n i less (omega (arith, less, places.0))
 
     gives : GivesText img link
     unfolding text_at lead_at
-    gives = gives_text img link (ap (λ (w : Word). is_empty (lead_text img (by_link img w))) (sym old_reference) ∙ key_sound.texted)
+    gives = gives_text img link (ap (λ (w : Option ℕ). is_empty (lead_text img (by_link img w))) (sym old_reference) ∙ key_sound.texted)
 
-    text_is : text_at img (view_of b) i ≡ text_bytes img gives.from gives.to
+    text_is : text_at img (view_of b) i ≡ text_bytes img gives.run.from gives.run.to
     unfolding text_at lead_at
-    text_is = ap (λ (w : Word). lead_text img (by_link img w)) old_reference ∙ ap (lead_text img) gives.lead
+    text_is = ap (λ (w : Option ℕ). lead_text img (by_link img w)) old_reference ∙ ap (lead_text img) gives.lead
 
-    runs : IsRun img link gives.from gives.to
-    runs = is_run img link gives.from gives.to gives.run
+    runs : IsRun img link gives.run
+    runs = is_run img link gives.run gives.runs
 
-    new_lead : lead_at image (view_of new) i ≡ Words gives.from gives.to
+    new_lead : lead_at image (view_of new) i ≡ Words gives.run
     unfolding lead_at lead_of
     new_lead =
         ap (by_link image) new_reference
-        ∙ rw (ne_eqb link 0 runs.linked, shape, run_first img behind link gives.from gives.to runs)
+        ∙ rw (ne_eqb link 0 runs.linked, shape, run_first img behind link gives.run runs)
 
     new_key : (t : List ℕ) → is_key image t (lead_at image (view_of new) (1 * i)) ≡ same_bytes (text_at img (view_of b) i) t
     new_key t =
         let one : 1 * i ≡ i = omega arith in
-        let order : (gives.from ≤ gives.to) × (gives.to ≤ length img) =
+        let order : (gives.run.from ≤ gives.run.to) × (gives.run.to ≤ length img) =
         (omega (arith, runs.start, runs.end, runs.long), omega (arith, runs.end, runs.within)) in
         ap (λ (k : ℕ). is_key image t (lead_at image (view_of new) k)) one ∙ ap (is_key image t) new_lead
-        ∙ ap (λ (x : List ℕ). same_bytes x t) (ap (λ (x : List ℕ). text_bytes x gives.from gives.to) shape ∙ bytes_first img behind gives.from gives.to order.0 order.1 ∙ sym text_is)
+        ∙ ap (λ (x : List ℕ). same_bytes x t) (ap (λ (x : List ℕ). text_bytes x gives.run.from gives.run.to) shape ∙ bytes_first img behind gives.run.from gives.run.to order.0 order.1 ∙ sym text_is)
 
     not_nested : leads_in image link ≡ false
     unfolding leads_in
-    not_nested = rw (ap (λ (x : List ℕ). is_conversion x link) shape ∙ no_conversion img behind link gives.from gives.to runs) (go (eqb link 0) (inside image link))
+    not_nested = rw (ap (λ (x : List ℕ). is_conversion x link) shape ∙ no_conversion img behind link gives.run runs) (go (eqb link 0) (inside image link))
       where
         go : (x y : Bool) → cond x false (cond y false false) ≡ false
         go true y = refl
         go false true = refl
         go false false = refl
 
-    new_value : value_in image (view_of new) i ≡ Value (key_at img (view_of b) i)
+    new_value : value_in image (view_of new) i ≡ Some (key_at img (view_of b) i)
     unfolding key_at value_at
     new_value = value_is i ∙ ap as_value (word_there img b.firstval n i less (omega (arith, less, places.1)))
 
-  no_more_values : value_in image (view_of new) n ≡ NoValue
+  no_more_values : value_in image (view_of new) n ≡ None
   no_more_values = value_is n ∙ ap as_value (word_past_count img b.firstval n n (omega arith))
 
   -- ---- the check: a tree of one block
-  leads_nowhere : (i r : ℕ) → word_at (references image new) i ≡ Bits r → leads_in image r ≡ false
+  leads_nowhere : (i r : ℕ) → word_at (references image new) i ≡ Some r → leads_in image r ≡ false
   unfolding reference_in reference_of
   leads_nowhere i r e = go (ltb i n) refl
     where
-      read : word_in img b.firstref n i ≡ Bits r
+      read : word_in img b.firstref n i ≡ Some r
       read = sym (reference_is i) ∙ references_read image place new parses i ∙ e
 
       go : (x : Bool) → ltb i n ≡ x → leads_in image r ≡ false
       go true t =
           let less = ltb-true i n t in
           let there = word_there img b.firstref n i less (omega (arith, less, places.0)) in
-          let both : Bits r ≡ Bits (word64 img (b.firstref + 8 * i)) = sym read ∙ there in
+          let both : Some r ≡ Some (word64 img (b.firstref + 8 * i)) = sym read ∙ there in
           let is : r ≡ word64 img (b.firstref + 8 * i) = cc in
           ap (leads_in image) is ∙ not_nested i less
       go false t =
-          let none : Bits r ≡ NoWord = sym read ∙ word_past_count img b.firstref n i (ltb-false i n t) in
+          let none : Some r ≡ None = sym read ∙ word_past_count img b.firstref n i (ltb-false i n t) in
           clash cc
 
   new_same : new ≡ block_at image place
@@ -282,7 +269,7 @@ module _ (img : List ℕ) (h : Bytes img) (a : ℕ) (b : Block) (whole : parsed 
       subst (λ (x : Block). Each (Sound d image) (leads_in image) (references image x) × (sizes (size d image) (leads_in image) (references image x) ≡ 0)) new_same
       (none_nested image (Sound d image) (size d image) (references image new) leads_nowhere)
 
-  new_opens : opened image place ≡ Whole (block_at image place)
+  new_opens : opened image place ≡ Ok (block_at image place)
   new_opens = opened_whole image place (parsed_whole image place new parses).fits
 
   tree_sound : Sound 21 image place
@@ -295,33 +282,33 @@ module _ (img : List ℕ) (h : Bytes img) (a : ℕ) (b : Block) (whole : parsed 
   unfolding size
   tree_size = omega (arith, (alone 20).1)
 
-  pub new_accepted : (l : ℕ) → 1 ≤ l → checked image place l ≡ Accepted 1
+  pub new_accepted : (l : ℕ) → 1 ≤ l → checked image place l ≡ Ok 1
   new_accepted l h =
       let w = parsed_whole image place new parses in
-      accepted_when image place l w.header w.conversion tree_sound (omega (arith, tree_size, h)) ∙ ap Accepted tree_size
+      accepted_when image place l w.header w.conversion tree_sound (omega (arith, tree_size, h)) ∙ ap Ok tree_size
 
   -- ---- applying
-  seen_new : seen image place ≡ Open (view_of new)
+  seen_new : seen image place ≡ Some (view_of new)
   unfolding seen
-  seen_new = ap seen_of (new_opens ∙ ap Whole (sym new_same))
+  seen_new = ap seen_of (new_opens ∙ ap Ok (sym new_same))
 
   -- by the index that the search gives
-  abbrev spoken : Number → says.Answer
+  abbrev spoken : Option Float → says.Answer
   spoken p = says.spelled image (or_unknown p)
 
   kind_new : type_of (view_of new).kind ≡ kind.TextToValue
   unfolding stored type_of
   kind_new = refl
 
-  applied_new : (d : ℕ) (mode : Mode) (t : List ℕ) (p : Number) → value_in image (view_of new) (value_key image (view_of new) t) ≡ p
+  applied_new : (d : ℕ) (mode : Mode) (t : List ℕ) (p : Option Float) → value_in image (view_of new) (value_key image (view_of new) t) ≡ p
       → applied (suc d) mode image t place given.Text ≡ record { says = spoken p; begun = place ∷ []; malformed = false }
   unfolding applied step_of
   applied_new d mode t p e =
-      ap (λ (s : Seen). begin place (ruled (applied d mode image t) image given.Text (unless_cut mode image t given.Text s))) seen_new
+      ap (λ (s : Option View). begin place (ruled (applied d mode image t) image given.Text (unless_cut mode image t given.Text s))) seen_new
       ∙ ap (λ (k : ConversionType). begin place (ruled (applied d mode image t) image given.Text (typed mode image t (view_of new) given.Text k))) kind_new
-      ∙ ap (λ (q : Number). record { says = spoken q; begun = place ∷ []; malformed = false }) e
+      ∙ ap (λ (q : Option Float). record { says = spoken q; begun = place ∷ []; malformed = false }) e
 
-  answered : (mode : Mode) (l : ℕ) → 1 ≤ l → (t o : List ℕ) (p : Number) → value_in image (view_of new) (value_key image (view_of new) t) ≡ p
+  answered : (mode : Mode) (l : ℕ) → 1 ≤ l → (t o : List ℕ) (p : Option Float) → value_in image (view_of new) (value_key image (view_of new) t) ≡ p
       → applying mode image place l given.Text t o ≡ settled 1 place (record { says = spoken p; begun = place ∷ []; malformed = false }) o
   answered mode l h t o p e =
       after_check mode image place l 1 given.Text t o (new_accepted l h) ∙ ap (λ (x : Ap). settled 1 place x o) (applied_new 20 mode t p e)
@@ -345,7 +332,7 @@ module _ (img : List ℕ) (h : Bytes img) (a : ℕ) (b : Block) (whole : parsed 
       let found : value_key image (view_of new) t ≡ i =
       key_found t
       ∙ sym (is_first (λ j. is_key image t (lead_at image (view_of new) (1 * j))) n 0 i (omega arith) (omega (arith, less)) (λ j h k. before j k) (λ k. new_key i less t ∙ same_itself t)) in
-      answered mode l h t o (Value (key_at img (view_of b) i)) (ap (value_in image (view_of new)) found ∙ new_value i less)
+      answered mode l h t o (Some (key_at img (view_of b) i)) (ap (value_in image (view_of new)) found ∙ new_value i less)
 
   -- and the key is the same 64 bits
   pub same_bits : (i : ℕ) → i < b.valcount → to_bits binary64 (key_at img (view_of b) i) ≡ word64 img (b.firstval + 8 * i)
@@ -362,4 +349,4 @@ module _ (img : List ℕ) (h : Bytes img) (a : ℕ) (b : Block) (whole : parsed 
       key_found t
       ∙ sym (is_first (λ j. is_key image t (lead_at image (view_of new) (1 * j))) n 0 n (omega arith) (omega arith)
       (λ j h k. new_key j k t ∙ not_same (text_at img (view_of b) j) t (none j k)) (λ k. absurd (omega (arith, k)))) in
-      answered mode l h t o NoValue (ap (value_in image (view_of new)) found ∙ no_more_values)
+      answered mode l h t o None (ap (value_in image (view_of new)) found ∙ no_more_values)

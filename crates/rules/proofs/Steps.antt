@@ -1,14 +1,17 @@
--- One step of each rule's definition, at the values that stand in an image; what the code's tests and loops cite. Assumes nothing.
+-- One step of each rule's definition, over a list of values; what the code's tests and loops cite. Assumes nothing.
 use mathlib.Core.Path.{◌≡◌, refl, sym, ap, ◌∙◌}
-use mathlib.Core.List.{List, ◌∷◌}
+use mathlib.Core.List.{List, [], ◌∷◌}
+use mathlib.Core.Logic.{◌⊎◌, ⊎_elim}
 use mathlib.Core.Bool.{Bool, true, false, ◌&&◌, ◌||◌, cond}
 use Prim.Native.Nat.{ℕ, zero, suc, ◌+◌, ◌-◌, ◌*◌, ◌/◌, ◌%◌, ◌≤◌, ◌<◌}
 use native.Mathlib.Omega.{arith}
 use borrow.Author.Tests.{ne_eqb, lt-ltb, le-ltb}
 use lib.Dec.{eqb, ltb}
-use lib.ListN.{length, get_or}
-use lib.Ieee.{Float, nan, inf, fin, le, lt, eq}
-use Rattle.words.specs.Words.{value_at}
+use lib.ListN.{length, get_or, drop, drop_of_length-le, length-drop}
+use lib.Seq.{drop-cons}
+use native.Mathlib.Numerals.{add-one}
+use lib.Ieee.{Float, nan, inf, fin, le, lt, eq, binary64, of_bits}
+use Rattle.words.specs.Words.{word64, value_at}
 use Rattle.rules.specs.Values.{values, plus, times, over}
 use Rattle.rules.specs.Linear.{linear, rational, poly}
 use Rattle.rules.specs.Table.{between, scan, table, holds, first_triple, range_value}
@@ -60,28 +63,8 @@ pub held_over : (whole : Bool) (low high x : Float) → cond whole (le x high) (
 unfolding holds
 held_over whole low high x t = rw t (and_false (le low x))
 
+-- ---- the values of an image as a list
 module _ (img : List ℕ) where
-  -- ---- the list of values
-  pub values_one : (p n : ℕ) → 0 < n → values img p n ≡ value_at img p ∷ values img (p + 8) (n - 1)
-  unfolding values
-  values_one p zero h = absurd (omega arith)
-  values_one p (suc n) h = let e : suc n - 1 ≡ n = omega arith in rw e
-
-  pub values_two : (p n : ℕ) → 1 < n → values img p n ≡ value_at img p ∷ value_at img (p + 8) ∷ values img (p + 16) (n - 2)
-  values_two p n h =
-      let place : p + 8 + 8 ≡ p + 16 = omega arith in
-      let rest : n - 1 - 1 ≡ n - 2 = omega arith in
-      values_one p n (omega arith)
-      ∙ ap (λ (l : List Float). value_at img p ∷ l) (values_one (p + 8) (n - 1) (omega arith))
-      ∙ rw (place, rest)
-
-  pub values_three : (p n : ℕ) → 2 < n
-      → values img p n ≡ value_at img p ∷ value_at img (p + 8) ∷ value_at img (p + 16) ∷ values img (p + 24) (n - 3)
-  values_three p n h =
-      let place : p + 16 + 8 ≡ p + 24 = omega arith in
-      let rest : n - 2 - 1 ≡ n - 3 = omega arith in
-      rw (values_two p n (omega arith), values_one (p + 16) (n - 2) (omega arith), place, rest)
-
   pub values_length : (p n : ℕ) → length (values img p n) ≡ n
   unfolding values
   values_length p zero = refl
@@ -95,189 +78,206 @@ module _ (img : List ℕ) where
       let e : p + 8 + i * 8 ≡ p + suc i * 8 = omega arith in
       values_at (p + 8) n i (omega arith) ∙ ap (value_at img) e
 
-  -- ---- linear and rational
-  pub linear_few : (p n : ℕ) (x : Float) → n < 2 → linear (values img p n) x ≡ x
-  unfolding linear values
-  linear_few p zero x h = refl
-  linear_few p (suc zero) x h = refl
-  linear_few p (suc (suc n)) x h = absurd (omega arith)
+  pub values_bits : (p n i : ℕ) → i < n → get_or (values img p n) i nan ≡ of_bits binary64 (word64 img (p + i * 8))
+  unfolding value_at
+  values_bits p n i h = values_at p n i h
 
-  pub linear_two : (p n : ℕ) (x : Float) → 2 ≤ n → linear (values img p n) x ≡ plus (value_at img p) (times (value_at img (p + 8)) x)
-  unfolding linear
-  linear_two p n x h = rw (values_two p n (omega arith))
+-- ---- linear and rational
+pub linear_few : (vs : List Float) (x : Float) → length vs < 2 → linear vs x ≡ x
+unfolding linear
+linear_few [] x h = refl
+linear_few (a ∷ []) x h = refl
+linear_few (a ∷ b ∷ vs) x h = absurd (omega arith)
 
-  abbrev pub poly_at : ℕ → Float → Float
-  poly_at p x = poly (value_at img p) (value_at img (p + 8)) (value_at img (p + 16)) x
+pub linear_two : (vs : List Float) (x : Float) → 2 ≤ length vs → linear vs x ≡ plus (get_or vs 0 nan) (times (get_or vs 1 nan) x)
+unfolding linear
+linear_two [] x h = absurd (omega arith)
+linear_two (a ∷ []) x h = absurd (omega arith)
+linear_two (a ∷ b ∷ vs) x h = refl
 
-  pub rational_few : (p n : ℕ) (x : Float) → n < 6 → rational (values img p n) x ≡ x
-  unfolding rational values
-  rational_few p zero x h = refl
-  rational_few p (suc zero) x h = refl
-  rational_few p (suc (suc zero)) x h = refl
-  rational_few p (suc (suc (suc zero))) x h = refl
-  rational_few p (suc (suc (suc (suc zero)))) x h = refl
-  rational_few p (suc (suc (suc (suc (suc zero))))) x h = refl
-  rational_few p (suc (suc (suc (suc (suc (suc n)))))) x h = absurd (omega arith)
+-- the half of a fraction by three values from the i-th on
+abbrev pub poly_at : List Float → ℕ → Float → Float
+poly_at vs i x = poly (get_or vs i nan) (get_or vs (i + 1) nan) (get_or vs (i + 2) nan) x
 
-  pub rational_six : (p n : ℕ) (x : Float) → 6 ≤ n → rational (values img p n) x ≡ over (poly_at p x) (poly_at (p + 24) x)
-  unfolding rational
-  rational_six p n x h = rw (values_three p n (omega arith), values_three (p + 24) (n - 3) (omega arith))
+pub rational_few : (vs : List Float) (x : Float) → length vs < 6 → rational vs x ≡ x
+unfolding rational
+rational_few [] x h = refl
+rational_few (a ∷ []) x h = refl
+rational_few (a ∷ b ∷ []) x h = refl
+rational_few (a ∷ b ∷ c ∷ []) x h = refl
+rational_few (a ∷ b ∷ c ∷ d ∷ []) x h = refl
+rational_few (a ∷ b ∷ c ∷ d ∷ e ∷ []) x h = refl
+rational_few (a ∷ b ∷ c ∷ d ∷ e ∷ f ∷ vs) x h = absurd (omega arith)
 
-  -- ---- tables of pairs
-  module _ (near : Bool) (x : Float) where
-    -- the answer from the pair at p on, whose key is k, with m pairs behind it
-    abbrev pub scan_at : ℕ → ℕ → Float
-    scan_at p m = scan near (value_at img p) (value_at img (p + 8)) (values img (p + 16) (m * 2)) x
+pub rational_six : (vs : List Float) (x : Float) → 6 ≤ length vs → rational vs x ≡ over (poly_at vs 0 x) (poly_at vs 3 x)
+unfolding rational
+rational_six [] x h = absurd (omega arith)
+rational_six (a ∷ []) x h = absurd (omega arith)
+rational_six (a ∷ b ∷ []) x h = absurd (omega arith)
+rational_six (a ∷ b ∷ c ∷ []) x h = absurd (omega arith)
+rational_six (a ∷ b ∷ c ∷ d ∷ []) x h = absurd (omega arith)
+rational_six (a ∷ b ∷ c ∷ d ∷ e ∷ []) x h = absurd (omega arith)
+rational_six (a ∷ b ∷ c ∷ d ∷ e ∷ f ∷ vs) x h = refl
 
-    pub scan_none : (p m : ℕ) → m ≤ 0 → scan_at p m ≡ x
-    unfolding scan values
-    scan_none p zero h = refl
-    scan_none p (suc m) h = absurd (omega arith)
+-- ---- the table as the code goes through it
+module _ (near : Bool) (x : Float) where
+  pub table_bad : (vs : List Float) → (length vs < 2) ⊎ (length vs % 2 ≡ 1) → table near vs x ≡ x
+  unfolding table
+  table_bad [] h = refl
+  table_bad (k ∷ []) h = refl
+  table_bad (k ∷ v ∷ vs) h =
+      ⊎_elim (λ (few : length (k ∷ v ∷ vs) < 2). absurd (omega arith)) (λ (odd : length (k ∷ v ∷ vs) % 2 ≡ 1). let o : length vs % 2 ≡ 1 = omega arith in rw o) h
 
-    scan_step : (p m : ℕ) → 0 < m
-        → scan_at p m
-        ≡ cond (le (value_at img p) x && le x (value_at img (p + 16)))
-        (between near (value_at img p) (value_at img (p + 8)) (value_at img (p + 16)) (value_at img (p + 16 + 8)) x)
-        (scan_at (p + 16) (m - 1))
+  table_is : (vs : List Float) → 2 ≤ length vs → (length vs % 2 ≡ 1 → ⊥)
+      → table near vs x
+      ≡ cond (le x (get_or vs 0 nan)) (get_or vs 1 nan)
+      (cond (le (get_or vs (length vs - 2) nan) x) (get_or vs (length vs - 1) nan)
+      (scan near (get_or vs 0 nan) (get_or vs 1 nan) (drop 2 vs) x))
+  unfolding table
+  table_is [] h o = absurd (omega arith)
+  table_is (k ∷ []) h o = absurd (omega arith)
+  table_is (k ∷ v ∷ vs) h o =
+      let even : eqb (length vs % 2) 1 ≡ false = ne_eqb _ _ (λ e. o (omega arith)) in
+      let key : length (k ∷ v ∷ vs) - 2 ≡ length vs = omega arith in
+      let last : length (k ∷ v ∷ vs) - 1 ≡ suc (length vs) = omega arith in
+      rw (even, key, last)
+
+  module _ (vs : List Float) (n : ℕ) (len : length vs ≡ n) (more : 2 ≤ n) (even : n % 2 ≡ 1 → ⊥) where
+    is : table near vs x
+        ≡ cond (le x (get_or vs 0 nan)) (get_or vs 1 nan)
+        (cond (le (get_or vs (n - 2) nan) x) (get_or vs (n - 1) nan) (scan near (get_or vs 0 nan) (get_or vs 1 nan) (drop 2 vs) x))
+    is = rw (sym len) (table_is vs (omega arith) (λ e. even (omega arith)))
+
+    pub table_first : le x (get_or vs 0 nan) ≡ true → table near vs x ≡ get_or vs 1 nan
+    table_first t = is ∙ rw t
+
+    pub table_last : le x (get_or vs 0 nan) ≡ false → le (get_or vs (n - 2) nan) x ≡ true → table near vs x ≡ get_or vs (n - 1) nan
+    table_last t u = is ∙ rw (t, u)
+
+    pub table_scan : le x (get_or vs 0 nan) ≡ false → le (get_or vs (n - 2) nan) x ≡ false
+        → table near vs x ≡ scan near (get_or vs 0 nan) (get_or vs 1 nan) (drop 2 vs) x
+    table_scan t u = is ∙ rw (t, u)
+
+-- ---- what is left of a list from the j-th value on
+module _ (vs : List Float) where
+  none : (j : ℕ) → length vs ≤ j → drop j vs ≡ []
+  none j h = drop_of_length-le vs h
+
+  one : (j : ℕ) → j < length vs → drop j vs ≡ get_or vs j nan ∷ drop (j + 1) vs
+  one j h = rw (add-one, drop-cons vs j nan h)
+
+  two : (j : ℕ) → j + 1 < length vs → drop j vs ≡ get_or vs j nan ∷ get_or vs (j + 1) nan ∷ drop (j + 2) vs
+  two j h =
+      let e : j + 1 + 1 ≡ j + 2 = omega arith in
+      one j (omega arith) ∙ ap (λ (l : List Float). get_or vs j nan ∷ l) (one (j + 1) h ∙ rw e)
+
+  three : (j : ℕ) → j + 2 < length vs → drop j vs ≡ get_or vs j nan ∷ get_or vs (j + 1) nan ∷ get_or vs (j + 2) nan ∷ drop (j + 3) vs
+  three j h =
+      let e : j + 2 + 1 ≡ j + 3 = omega arith in
+      two j (omega arith) ∙ ap (λ (l : List Float). get_or vs j nan ∷ get_or vs (j + 1) nan ∷ l) (one (j + 2) h ∙ rw e)
+
+  -- ---- the neighbours, behind the pair whose key is k and whose value is v
+  module _ (near : Bool) (x k v : Float) where
+    pub scan_none : (j : ℕ) → length vs ≤ j + 1 → scan near k v (drop j vs) x ≡ x
     unfolding scan
-    scan_step p m h =
-        let rest : m * 2 - 2 ≡ (m - 1) * 2 = omega arith in
-        rw (values_two (p + 16) (m * 2) (omega arith), rest)
-
-    pub scan_hit : (p m : ℕ) → 0 < m → (le (value_at img p) x && le x (value_at img (p + 16))) ≡ true
-        → scan_at p m ≡ between near (value_at img p) (value_at img (p + 8)) (value_at img (p + 16)) (value_at img (p + 16 + 8)) x
-    scan_hit p m h t = scan_step p m h ∙ rw t
-
-    pub scan_miss : (p m : ℕ) → 0 < m → (le (value_at img p) x && le x (value_at img (p + 16))) ≡ false → scan_at p m ≡ scan_at (p + 16) (m - 1)
-    scan_miss p m h t = scan_step p m h ∙ rw t
-
-    pub table_few : (p n : ℕ) → n < 2 → table near (values img p n) x ≡ x
-    unfolding table values
-    table_few p zero h = refl
-    table_few p (suc zero) h = refl
-    table_few p (suc (suc n)) h = absurd (omega arith)
-
-    -- the table as the code goes through it
-    table_is : (p n : ℕ) → 2 ≤ n
-        → table near (values img p n) x
-        ≡ cond (eqb (n % 2) 1) x
-        (cond (le x (value_at img p)) (value_at img (p + 8))
-        (cond (le (value_at img (p + (n - 2) * 8)) x) (value_at img (p + (n - 2) * 8 + 8))
-        (scan near (value_at img p) (value_at img (p + 8)) (values img (p + 16) (n - 2)) x)))
-    unfolding table
-    table_is p n h =
-        let e = values_two p n h in
-        let vs = values img (p + 16) (n - 2) in
-        let long : length vs ≡ n - 2 = values_length (p + 16) (n - 2) in
-        let key : get_or (value_at img p ∷ value_at img (p + 8) ∷ vs) (n - 2) nan ≡ value_at img (p + (n - 2) * 8) =
-        ap (λ (l : List Float). get_or l (n - 2) nan) (sym e) ∙ values_at p n (n - 2) (omega arith) in
-        let place : p + suc (n - 2) * 8 ≡ p + (n - 2) * 8 + 8 = omega arith in
-        let last : get_or (value_at img p ∷ value_at img (p + 8) ∷ vs) (suc (n - 2)) nan ≡ value_at img (p + (n - 2) * 8 + 8) =
-        ap (λ (l : List Float). get_or l (suc (n - 2)) nan) (sym e) ∙ values_at p n (suc (n - 2)) (omega arith) ∙ ap (value_at img) place in
-        let parity : (n - 2) % 2 ≡ n % 2 = omega arith in
-        rw (e, long, parity, key, last)
-
-    pub table_odd : (p n : ℕ) → 2 ≤ n → n % 2 ≡ 1 → table near (values img p n) x ≡ x
-    table_odd p n h o = table_is p n h ∙ rw o
-
-    pub table_first : (p n : ℕ) → 2 ≤ n → (n % 2 ≡ 1 → ⊥) → le x (value_at img p) ≡ true → table near (values img p n) x ≡ value_at img (p + 8)
-    table_first p n h o t = table_is p n h ∙ rw (ne_eqb (n % 2) 1 o, t)
-
-    pub table_last : (p n : ℕ) → 2 ≤ n → (n % 2 ≡ 1 → ⊥) → le x (value_at img p) ≡ false → le (value_at img (p + (n - 2) * 8)) x ≡ true
-        → table near (values img p n) x ≡ value_at img (p + (n - 2) * 8 + 8)
-    table_last p n h o t u = table_is p n h ∙ rw (ne_eqb (n % 2) 1 o, t, u)
-
-    pub table_scan : (p n : ℕ) → 2 ≤ n → (n % 2 ≡ 1 → ⊥) → le x (value_at img p) ≡ false → le (value_at img (p + (n - 2) * 8)) x ≡ false
-        → table near (values img p n) x ≡ scan_at p (n / 2 - 1)
-    table_scan p n h o t u =
-        let e : n - 2 ≡ (n / 2 - 1) * 2 = even in
-        table_is p n h
-        ∙ rw (ne_eqb (n % 2) 1 o, t, u) (ap (λ (k : ℕ). scan near (value_at img p) (value_at img (p + 8)) (values img (p + 16) k) x) e)
+    scan_none j h = go (drop j vs) (length-drop j vs)
       where
-        even : n - 2 ≡ (n / 2 - 1) * 2
-        even = omega (arith, o)
+        go : (l : List Float) → length l ≡ length vs - j → scan near k v l x ≡ x
+        go [] e = refl
+        go (a ∷ []) e = refl
+        go (a ∷ b ∷ l) e = absurd (omega arith)
+
+    scan_step : (j : ℕ) → j + 1 < length vs
+        → scan near k v (drop j vs) x
+        ≡ cond (le k x && le x (get_or vs j nan)) (between near k v (get_or vs j nan) (get_or vs (j + 1) nan) x)
+        (scan near (get_or vs j nan) (get_or vs (j + 1) nan) (drop (j + 2) vs) x)
+    unfolding scan
+    scan_step j h = rw (two j h)
+
+    pub scan_hit : (j : ℕ) → j + 1 < length vs → (le k x && le x (get_or vs j nan)) ≡ true
+        → scan near k v (drop j vs) x ≡ between near k v (get_or vs j nan) (get_or vs (j + 1) nan) x
+    scan_hit j h t = scan_step j h ∙ rw t
+
+    pub scan_miss : (j : ℕ) → j + 1 < length vs → (le k x && le x (get_or vs j nan)) ≡ false
+        → scan near k v (drop j vs) x ≡ scan near (get_or vs j nan) (get_or vs (j + 1) nan) (drop (j + 2) vs) x
+    scan_miss j h t = scan_step j h ∙ rw t
 
   -- ---- ranges
   module _ (whole : Bool) (x : Float) where
-    -- no range is left
-    pub range_none : (p n : ℕ) → n ≤ 1 → first_range whole (values img p n) x ≡ 0
-    unfolding first_range values
-    range_none p zero h = refl
-    range_none p (suc zero) h = refl
-    range_none p (suc (suc n)) h = absurd (omega arith)
-
-    range_step : (p n : ℕ) → 1 < n
-        → first_range whole (values img p n) x
-        ≡ cond (holds whole (value_at img p) (value_at img (p + 8)) x) 0 (suc (first_range whole (values img (p + 16) (n - 2)) x))
+    pub range_none : (j : ℕ) → length vs ≤ j + 1 → first_range whole (drop j vs) x ≡ 0
     unfolding first_range
-    range_step p n h = rw (values_two p n h)
+    range_none j h = go (drop j vs) (length-drop j vs)
+      where
+        go : (l : List Float) → length l ≡ length vs - j → first_range whole l x ≡ 0
+        go [] e = refl
+        go (a ∷ []) e = refl
+        go (a ∷ b ∷ l) e = absurd (omega arith)
 
-    pub range_hit : (p n : ℕ) → 1 < n → holds whole (value_at img p) (value_at img (p + 8)) x ≡ true → first_range whole (values img p n) x ≡ 0
-    range_hit p n h t = range_step p n h ∙ rw t
+    range_step : (j : ℕ) → j + 1 < length vs
+        → first_range whole (drop j vs) x ≡ cond (holds whole (get_or vs j nan) (get_or vs (j + 1) nan) x) 0 (suc (first_range whole (drop (j + 2) vs) x))
+    unfolding first_range
+    range_step j h = rw (two j h)
 
-    pub range_miss : (p n m : ℕ) → 1 < n → n - 2 ≡ m → holds whole (value_at img p) (value_at img (p + 8)) x ≡ false
-        → first_range whole (values img p n) x ≡ suc (first_range whole (values img (p + 16) m) x)
-    range_miss p n m h e t = range_step p n h ∙ rw (t, e)
+    pub range_hit : (j : ℕ) → j + 1 < length vs → holds whole (get_or vs j nan) (get_or vs (j + 1) nan) x ≡ true → first_range whole (drop j vs) x ≡ 0
+    range_hit j h t = range_step j h ∙ rw t
 
-    pub range_malformed : (p n : ℕ) → malformed n ≡ true → range_search whole (values img p n) x ≡ Malformed (ltb 2 n)
-    unfolding range_search
-    range_malformed p n h = rw (values_length p n, h)
-
-    pub range_searched : (p n : ℕ) → malformed n ≡ false
-        → range_search whole (values img p n) x ≡ searched (first_range whole (values img p n) x) (n / 2)
-    unfolding range_search
-    range_searched p n h = rw (values_length p n, h)
+    pub range_miss : (j : ℕ) → j + 1 < length vs → holds whole (get_or vs j nan) (get_or vs (j + 1) nan) x ≡ false
+        → first_range whole (drop j vs) x ≡ suc (first_range whole (drop (j + 2) vs) x)
+    range_miss j h t = range_step j h ∙ rw t
 
     -- ---- triples
-    pub triple_last : (p n : ℕ) → n ≡ 1 → first_triple whole (values img p n) x ≡ value_at img p
-    unfolding first_triple values
-    triple_last p n e = rw e
-
-    triple_step : (p n : ℕ) → 2 < n
-        → first_triple whole (values img p n) x
-        ≡ cond (holds whole (value_at img p) (value_at img (p + 8)) x) (value_at img (p + 16)) (first_triple whole (values img (p + 24) (n - 3)) x)
+    pub triple_last : (j : ℕ) → length vs ≡ j + 1 → first_triple whole (drop j vs) x ≡ get_or vs j nan
     unfolding first_triple
-    triple_step p n h = rw (values_three p n h)
+    triple_last j e = rw (one j (omega arith), none (j + 1) (omega arith))
 
-    pub triple_hit : (p n : ℕ) → 2 < n → holds whole (value_at img p) (value_at img (p + 8)) x ≡ true
-        → first_triple whole (values img p n) x ≡ value_at img (p + 16)
-    triple_hit p n h t = triple_step p n h ∙ rw t
+    triple_step : (j : ℕ) → j + 2 < length vs
+        → first_triple whole (drop j vs) x
+        ≡ cond (holds whole (get_or vs j nan) (get_or vs (j + 1) nan) x) (get_or vs (j + 2) nan) (first_triple whole (drop (j + 3) vs) x)
+    unfolding first_triple
+    triple_step j h = rw (three j h)
 
-    pub triple_miss : (p n : ℕ) → 2 < n → holds whole (value_at img p) (value_at img (p + 8)) x ≡ false
-        → first_triple whole (values img p n) x ≡ first_triple whole (values img (p + 24) (n - 3)) x
-    triple_miss p n h t = triple_step p n h ∙ rw t
+    pub triple_hit : (j : ℕ) → j + 2 < length vs → holds whole (get_or vs j nan) (get_or vs (j + 1) nan) x ≡ true
+        → first_triple whole (drop j vs) x ≡ get_or vs (j + 2) nan
+    triple_hit j h t = triple_step j h ∙ rw t
 
-    pub range_value_few : (p n : ℕ) → n < 4 → range_value whole (values img p n) x ≡ x
-    unfolding range_value
-    range_value_few p n h = rw (values_length p n, lt-ltb n 4 h)
+    pub triple_miss : (j : ℕ) → j + 2 < length vs → holds whole (get_or vs j nan) (get_or vs (j + 1) nan) x ≡ false
+        → first_triple whole (drop j vs) x ≡ first_triple whole (drop (j + 3) vs) x
+    triple_miss j h t = triple_step j h ∙ rw t
 
-    pub range_value_bad : (p n : ℕ) → (n % 3 ≡ 1 → ⊥) → range_value whole (values img p n) x ≡ x
-    unfolding range_value
-    range_value_bad p n h = rw (values_length p n, ne_eqb (n % 3) 1 h, or_true (ltb n 4))
+    module _ (n : ℕ) (len : length vs ≡ n) where
+      pub range_malformed : malformed n ≡ true → range_search whole vs x ≡ Malformed (ltb 2 n)
+      unfolding range_search
+      range_malformed h = rw (len, h)
 
-    pub range_value_good : (p n : ℕ) → 4 ≤ n → n % 3 ≡ 1 → range_value whole (values img p n) x ≡ first_triple whole (values img p n) x
-    unfolding range_value
-    range_value_good p n h k = rw (values_length p n, le-ltb n 4 h, k)
+      pub range_searched : malformed n ≡ false → range_search whole vs x ≡ searched (first_range whole vs x) (n / 2)
+      unfolding range_search
+      range_searched h = rw (len, h)
+
+      pub range_value_bad : (n < 4) ⊎ (n % 3 ≡ 1 → ⊥) → range_value whole vs x ≡ x
+      unfolding range_value
+      range_value_bad h =
+          ⊎_elim (λ (few : n < 4). rw (len, lt-ltb n 4 few)) (λ (odd : n % 3 ≡ 1 → ⊥). rw (len, ne_eqb (n % 3) 1 odd, or_true (ltb n 4))) h
+
+      pub range_value_good : 4 ≤ n → n % 3 ≡ 1 → range_value whole vs x ≡ first_triple whole vs x
+      unfolding range_value
+      range_value_good h k = rw (len, le-ltb n 4 h, k)
 
   -- ---- keys
   module _ (x : Float) where
-    pub key_none : (p n : ℕ) → n ≤ 0 → first_key (values img p n) x ≡ 0
-    unfolding first_key values
-    key_none p zero h = refl
-    key_none p (suc n) h = absurd (omega arith)
-
-    key_step : (p n : ℕ) → 0 < n
-        → first_key (values img p n) x ≡ cond (eq (value_at img p) x) 0 (suc (first_key (values img (p + 8) (n - 1)) x))
+    pub key_none : (j : ℕ) → length vs ≤ j → first_key (drop j vs) x ≡ 0
     unfolding first_key
-    key_step p n h = rw (values_one p n h)
+    key_none j h = rw (none j h)
 
-    pub key_hit : (p n : ℕ) → 0 < n → eq (value_at img p) x ≡ true → first_key (values img p n) x ≡ 0
-    key_hit p n h t = key_step p n h ∙ rw t
+    key_step : (j : ℕ) → j < length vs → first_key (drop j vs) x ≡ cond (eq (get_or vs j nan) x) 0 (suc (first_key (drop (j + 1) vs) x))
+    unfolding first_key
+    key_step j h = rw (one j h)
 
-    pub key_miss : (p n m : ℕ) → 0 < n → n - 1 ≡ m → eq (value_at img p) x ≡ false
-        → first_key (values img p n) x ≡ suc (first_key (values img (p + 8) m) x)
-    key_miss p n m h e t = key_step p n h ∙ rw (t, e)
+    pub key_hit : (j : ℕ) → j < length vs → eq (get_or vs j nan) x ≡ true → first_key (drop j vs) x ≡ 0
+    key_hit j h t = key_step j h ∙ rw t
 
-    pub key_searched : (p n : ℕ) → key_search (values img p n) x ≡ searched (first_key (values img p n) x) n
+    pub key_miss : (j : ℕ) → j < length vs → eq (get_or vs j nan) x ≡ false → first_key (drop j vs) x ≡ suc (first_key (drop (j + 1) vs) x)
+    key_miss j h t = key_step j h ∙ rw t
+
+    pub key_searched : (n : ℕ) → length vs ≡ n → key_search vs x ≡ searched (first_key vs x) n
     unfolding key_search
-    key_searched p n = rw (values_length p n)
+    key_searched n len = rw len

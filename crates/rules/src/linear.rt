@@ -1,35 +1,32 @@
 // Linear and rational. Carries over linear.rs.
-ghost use Rattle.std.specs.Prelude.{◌≡◌, ◌+◌, ◌*◌, ◌≤◌, length};
-ghost use Rattle.rules.specs.Values.{values};
+ghost use Rattle.std.specs.Prelude.{◌≡◌, ◌+◌, ◌<◌};
+ghost use Rattle.rules.specs.Stored.{stored_value, listed};
 ghost use Rattle.rules.specs.Linear.{linear, rational, poly};
-ghost use Rattle.words.specs.Words.{value_at};
 
-use crate::number::value_at;
+use crate::stored::Values;
 
-pub fn apply_linear(image: &[u8], p: usize, n: usize, x: f64) -> f64
-    requires { p + n * 8 ≤ length image.now }
-    ensures { result ≡ linear (values image.now p n) x }
+pub fn apply_linear(values: Values, x: f64) -> f64
+    ensures { result ≡ linear (listed values.entry) x }
 {
-    if n < 2 {
+    if values.count < 2 {
         return x;
     }
-    value_at(image, p) + value_at(image, p + 8) * x
+    values.at(0) + values.at(1) * x
 }
 
-// One half of the fraction, by the three values at p.
-fn polynomial(image: &[u8], p: usize, x: f64) -> f64
-    requires { p + 24 ≤ length image.now }
-    ensures { result ≡ poly (value_at image.now p) (value_at image.now (p + 8)) (value_at image.now (p + 16)) x }
+// One half of the fraction, by three values from the i-th on.
+fn polynomial(values: Values, i: usize, x: f64) -> f64
+    requires { i + 2 < values.count }
+    ensures { result ≡ poly (stored_value values.entry i) (stored_value values.entry (i + 1)) (stored_value values.entry (i + 2)) x }
 {
-    ((value_at(image, p) * x) * x + value_at(image, p + 8) * x) + value_at(image, p + 16)
+    ((values.at(i) * x) * x + values.at(i + 1) * x) + values.at(i + 2)
 }
 
-pub fn apply_rational(image: &[u8], p: usize, n: usize, x: f64) -> f64
-    requires { p + n * 8 ≤ length image.now }
-    ensures { result ≡ rational (values image.now p n) x }
+pub fn apply_rational(values: Values, x: f64) -> f64
+    ensures { result ≡ rational (listed values.entry) x }
 {
-    if n < 6 {
+    if values.count < 6 {
         return x;
     }
-    polynomial(image, p, x) / polynomial(image, p + 24, x)
+    polynomial(values, 0, x) / polynomial(values, 3, x)
 }

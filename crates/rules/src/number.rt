@@ -3,7 +3,8 @@ ghost use Rattle.std.specs.Prelude.{◌≡◌, ◌+◌, ◌≤◌, length};
 ghost use Rattle.words.specs.Words.{value_at};
 ghost use Rattle.rules.specs.Numbers.{taken};
 
-// The text's bytes stand beside the value.
+// The text's bytes stand beside the value: within it each definition and theorem on a value would speak of a reference too, where they speak of bytes
+// (`applying`, `by_taken`, `alone`).
 #[derive(Clone, Copy)]
 pub enum Value {
     Unsigned(u64),
@@ -15,20 +16,28 @@ pub enum Value {
 
 // The number of a value, and whether it came from an integer, for which an upper bound is inclusive.
 #[derive(Clone, Copy)]
-pub enum Taken {
-    Number(f64, bool),
-    NoNumber,
+pub struct Taken {
+    pub number: f64,
+    pub whole: bool,
 }
 
-pub fn take(v: Value) -> Taken
+pub fn take(v: Value) -> Option<Taken>
     ensures { result ≡ taken v }
 {
     match v {
-        Value::Unsigned(n) => Taken::Number(floats::from_u64(n), true),
-        Value::Signed(n) => Taken::Number(floats::from_i64(n), true),
-        Value::Float(x) => Taken::Number(x, false),
-        Value::Text => Taken::NoNumber,
-        Value::Other => Taken::NoNumber,
+        Value::Unsigned(n) => Some(Taken {
+            number: floats::from_u64(n),
+            whole: true,
+        }),
+        Value::Signed(n) => Some(Taken {
+            number: floats::from_i64(n),
+            whole: true,
+        }),
+        Value::Float(x) => Some(Taken {
+            number: x,
+            whole: false,
+        }),
+        Value::Text | Value::Other => None,
     }
 }
 

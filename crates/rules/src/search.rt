@@ -1,11 +1,11 @@
 // The searches of types 7 and 8: the index of a key or of a range, and whether it matched, or that the table of ranges is malformed. Carries over
 // `find_range_to_text_index` and the key search of text.rs.
-ghost use Rattle.std.specs.Prelude.{◌≡◌, ◌+◌, ◌*◌, ◌≤◌, length};
+ghost use Rattle.std.specs.Prelude.{◌≡◌, ◌<◌};
 ghost use Rattle.std.specs.Float.Ieee.{eq};
-ghost use Rattle.words.specs.Words.{value_at};
-ghost use Rattle.rules.specs.Values.{values};
+ghost use Rattle.rules.specs.Stored.{stored_value, listed};
 ghost use Rattle.rules.specs.Search.{deciding, is_match, is_malformed, first_key, key_search, first_range, malformed, range_search, searched};
 
+use crate::stored::Values;
 use crate::table_lookup::is_held_at;
 
 // A match and no match carry the index whose reference decides; a malformed table, for which index 0 decides, carries whether that counts as a
@@ -39,6 +39,7 @@ impl Searched {
         }
     }
 
+    // As a match, like the other two: each case is said once.
     pub fn is_malformed(self) -> bool
         ensures { result ≡ is_malformed self }
     {
@@ -60,74 +61,61 @@ fn searched_at(i: usize, n: usize) -> Searched
     }
 }
 
-// The key at a place is x. A NaN pattern equals nothing, so it is passed over before it is turned into the one NaN.
-fn is_key_at(image: &[u8], at: usize, x: f64) -> bool
-    requires { at + 8 ≤ length image.now }
-    ensures { result ≡ eq (value_at image.now at) x }
+// The i-th value is x. A NaN pattern equals nothing, so it is passed over before it is turned into the one NaN.
+fn is_key_at(values: Values, i: usize, x: f64) -> bool
+    requires { i < values.count }
+    ensures { result ≡ eq (stored_value values.entry i) x }
 {
-    let word = words::u64_at(image, at);
-    if floats::is_nan_pattern(word) {
-        false
-    } else {
-        floats::from_bits(word) == x
-    }
+    let word = values.word(i);
+    !floats::is_nan_pattern(word) && floats::from_bits(word) == x
 }
 
-fn key_index(image: &[u8], p: usize, n: usize, x: f64) -> usize
-    requires { p + n * 8 ≤ length image.now }
-    ensures { result ≡ first_key (values image.now p n) x }
+// How many keys stand before the first that is x; all of them, and not None, if none is: that is the index of the default (`first_key`). The search for a
+// range is a loop of its own, since its test reads two values and its index is of pairs.
+fn key_index(values: Values, x: f64) -> usize
+    ensures { result ≡ first_key (listed values.entry) x }
 {
-    let mut i = 0;
-    let mut at = p;
-    while i < n {
-        if is_key_at(image, at, x) {
+    for i in 0..values.count {
+        if is_key_at(values, i, x) {
             return i;
         }
-        at += 8;
-        i += 1;
     }
-    i
+    values.count
 }
 
-pub fn search_key(image: &[u8], p: usize, n: usize, x: f64) -> Searched
-    requires { p + n * 8 ≤ length image.now }
-    ensures { result ≡ key_search (values image.now p n) x }
+pub fn search_key(values: Values, x: f64) -> Searched
+    ensures { result ≡ key_search (listed values.entry) x }
 {
-    searched_at(key_index(image, p, n, x), n)
+    searched_at(key_index(values, x), values.count)
 }
 
-// How many ranges stand before the first that holds x.
-fn range_index(image: &[u8], p: usize, n: usize, whole: bool, x: f64) -> usize
-    requires { p + n * 8 ≤ length image.now }
-    ensures { result ≡ first_range whole (values image.now p n) x }
+// How many ranges stand before the first that holds x; all of them if none does (`first_range`).
+fn range_index(values: Values, whole: bool, x: f64) -> usize
+    ensures { result ≡ first_range whole (listed values.entry) x }
 {
-    let pairs = n / 2;
-    let mut i = 0;
-    let mut at = p;
-    while i < pairs {
-        if is_held_at(image, at, whole, x) {
+    let pairs = values.count / 2;
+    for i in 0..pairs {
+        if is_held_at(values, 2 * i, whole, x) {
             return i;
         }
-        at += 16;
-        i += 1;
     }
-    i
+    pairs
 }
 
 // A table of ranges of this length is malformed.
 fn is_malformed_length(n: usize) -> bool
     ensures { result ≡ malformed n }
 {
-    if n < 2 { true } else { n % 2 == 1 }
+    n < 2 || n % 2 == 1
 }
 
-pub fn search_range(image: &[u8], p: usize, n: usize, whole: bool, x: f64) -> Searched
-    requires { p + n * 8 ≤ length image.now }
-    ensures { result ≡ range_search whole (values image.now p n) x }
+pub fn search_range(values: Values, whole: bool, x: f64) -> Searched
+    ensures { result ≡ range_search whole (listed values.entry) x }
 {
+    let n = values.count;
     if is_malformed_length(n) {
         // From length 3 on it counts as a match.
         return Searched::Malformed(2 < n);
     }
-    searched_at(range_index(image, p, n, whole, x), n / 2)
+    searched_at(range_index(values, whole, x), n / 2)
 }

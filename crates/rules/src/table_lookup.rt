@@ -1,16 +1,15 @@
 // Tables of pairs, interpolated or nearest, and range to value. Carries over table_lookup.rs.
-ghost use Rattle.std.specs.Prelude.{◌≡◌, ◌&&◌, cond, ◌+◌, ◌*◌, ◌≤◌, length};
+ghost use Rattle.std.specs.Prelude.{◌≡◌, ◌&&◌, cond, ◌+◌, ◌<◌, drop};
 ghost use Rattle.std.specs.Float.Ieee.{le, lt};
-ghost use Rattle.words.specs.Words.{value_at};
-ghost use Rattle.rules.specs.Values.{values};
+ghost use Rattle.rules.specs.Stored.{stored_value, listed};
 ghost use Rattle.rules.specs.Table.{between, scan, table, holds, range_value};
 
-use crate::number::value_at;
+use crate::stored::Values;
 
 fn is_between(k0: f64, x: f64, k1: f64) -> bool
     ensures { result ≡ (le k0 x && le x k1) }
 {
-    if k0 <= x { x <= k1 } else { false }
+    k0 <= x && x <= k1
 }
 
 fn at_between(near: bool, k0: f64, v0: f64, k1: f64, v1: f64, x: f64) -> f64
@@ -23,102 +22,72 @@ fn at_between(near: bool, k0: f64, v0: f64, k1: f64, v1: f64, x: f64) -> f64
     }
 }
 
-// The first neighbours around x, from the pair at p on, behind which stand m pairs. A key is read once: the upper one is the next turn's lower.
-fn apply_scan(image: &[u8], p: usize, m: usize, near: bool, x: f64) -> f64
-    requires { p + 16 + m * 16 ≤ length image.now }
-    ensures { result ≡ scan near (value_at image.now p) (value_at image.now (p + 8)) (values image.now (p + 16) (m * 2)) x }
+// The first neighbours around x. A key is read once: the upper one is the next turn's lower.
+fn apply_scan(values: Values, near: bool, x: f64) -> f64
+    requires { 1 < values.count }
+    ensures { result ≡ scan near (stored_value values.entry 0) (stored_value values.entry 1) (drop 2 (listed values.entry)) x }
 {
-    let mut at = p;
-    let mut left = m;
-    let mut k0 = value_at(image, p);
-    while 0 < left {
-        let next = at + 16;
-        let k1 = value_at(image, next);
+    let mut k0 = values.at(0);
+    for i in 1..values.count / 2 {
+        let k1 = values.at(2 * i);
         if is_between(k0, x, k1) {
-            return at_between(
-                near,
-                k0,
-                value_at(image, at + 8),
-                k1,
-                value_at(image, next + 8),
-                x,
-            );
+            return at_between(near, k0, values.at(2 * i - 1), k1, values.at(2 * i + 1), x);
         }
         k0 = k1;
-        at = next;
-        left -= 1;
     }
     x
 }
 
-pub fn apply_table(image: &[u8], p: usize, n: usize, near: bool, x: f64) -> f64
-    requires { p + n * 8 ≤ length image.now }
-    ensures { result ≡ table near (values image.now p n) x }
+pub fn apply_table(values: Values, near: bool, x: f64) -> f64
+    ensures { result ≡ table near (listed values.entry) x }
 {
-    if n < 2 {
+    let n = values.count;
+    if n < 2 || n % 2 == 1 {
         return x;
     }
-    if n % 2 == 1 {
-        return x;
+    if x <= values.at(0) {
+        return values.at(1);
     }
-    if x <= value_at(image, p) {
-        return value_at(image, p + 8);
+    if x >= values.at(n - 2) {
+        return values.at(n - 1);
     }
-    let last = p + (n - 2) * 8;
-    if x >= value_at(image, last) {
-        return value_at(image, last + 8);
-    }
-    apply_scan(image, p, n / 2 - 1, near, x)
+    apply_scan(values, near, x)
 }
 
-// x is under the upper bound at a place, which is in the range for integers, and not for floats. Nothing is under a NaN pattern, so it is
-// passed over before it is turned into the one NaN; what is above the bound needs no look at which of the two it is.
-fn is_under_at(image: &[u8], at: usize, whole: bool, x: f64) -> bool
-    requires { at + 8 ≤ length image.now }
-    ensures { result ≡ cond whole (le x (value_at image.now at)) (lt x (value_at image.now at)) }
+// x is under the upper bound that is the i-th value, which is in the range for integers, and not for floats. Nothing is under a NaN pattern, so
+// it is passed over before it is turned into the one NaN; what is above the bound needs no look at which of the two it is.
+fn is_under_at(values: Values, i: usize, whole: bool, x: f64) -> bool
+    requires { i < values.count }
+    ensures { result ≡ cond whole (le x (stored_value values.entry i)) (lt x (stored_value values.entry i)) }
 {
-    let word = words::u64_at(image, at);
+    let word = values.word(i);
     if floats::is_nan_pattern(word) {
         return false;
     }
     let high = floats::from_bits(word);
-    if x <= high {
-        if whole { true } else { x < high }
-    } else {
-        false
-    }
+    x <= high && (whole || x < high)
 }
 
-// The range at a place holds x. Most ranges fail by their upper bound, so it is tested first, and the lower one is read only where it holds.
-pub fn is_held_at(image: &[u8], at: usize, whole: bool, x: f64) -> bool
-    requires { at + 16 ≤ length image.now }
-    ensures { result ≡ holds whole (value_at image.now at) (value_at image.now (at + 8)) x }
+// The range from the i-th value to the next holds x. Most ranges fail by their upper bound, so it is tested first, and the lower one is read only
+// where it holds.
+pub fn is_held_at(values: Values, i: usize, whole: bool, x: f64) -> bool
+    requires { i + 1 < values.count }
+    ensures { result ≡ holds whole (stored_value values.entry i) (stored_value values.entry (i + 1)) x }
 {
-    if is_under_at(image, at + 8, whole, x) {
-        value_at(image, at) <= x
-    } else {
-        false
-    }
+    is_under_at(values, i + 1, whole, x) && values.at(i) <= x
 }
 
-pub fn apply_range_value(image: &[u8], p: usize, n: usize, whole: bool, x: f64) -> f64
-    requires { p + n * 8 ≤ length image.now }
-    ensures { result ≡ range_value whole (values image.now p n) x }
+pub fn apply_range_value(values: Values, whole: bool, x: f64) -> f64
+    ensures { result ≡ range_value whole (listed values.entry) x }
 {
-    if n < 4 {
+    let n = values.count;
+    if n < 4 || n % 3 != 1 {
         return x;
     }
-    if n % 3 != 1 {
-        return x;
-    }
-    let mut at = p;
-    let mut left = n;
-    while 1 < left {
-        if is_held_at(image, at, whole, x) {
-            return value_at(image, at + 16);
+    for i in 0..n / 3 {
+        if is_held_at(values, 3 * i, whole, x) {
+            return values.at(3 * i + 2);
         }
-        at += 24;
-        left -= 3;
     }
-    value_at(image, at)
+    values.at(n - 1)
 }

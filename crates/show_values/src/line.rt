@@ -1,198 +1,131 @@
 // The line of a request: the conversion's name, the value, its answer, the two counts, and whether a malformed table of ranges was consulted.
-use crate::say::{labelled, quoted, say};
-use crate::{back, say};
-use blocks::{Block, Parsed};
-use common::text::{Text, text_of};
-use conversion::logic::Answer;
-use lines::decimal;
-use lines::parts::{part, room, word};
-use lines::request::{NONE, Request};
+use crate::asked::Asked;
+use crate::back;
+use crate::said::{Counts, Limits, ROOM, quoted, value};
+use blocks::Block;
+use common::text::text_of;
+use conversion::logic::{Answer, Applied};
+use lines::decimal::Decimal;
+use lines::parts::part;
+use lines::refusal::Told;
+use lines::request::Request;
 use rules::number::Value;
+use std::io;
 
-// A line names the width of the signal and the edition where the request has one, and the visit limit and the room where they are not the usual ones:
-// this limit, and the most room.
-const LIMIT: u32 = 4096;
-
-const ROOM: usize = 4096;
-
-// The kind of a text that is asked back.
-const BACK: u64 = 5;
-
-// The links to a conversion's name and unit.
+// The name and the unit of a conversion, where it has them.
 #[derive(Clone, Copy)]
-struct Links {
-    name: u64,
-    unit: u64,
+struct Labels<'a> {
+    name: Option<&'a [u8]>,
+    unit: Option<&'a [u8]>,
 }
 
-// NIL where no whole conversion stands.
-fn links_of(image: &[u8], address: u64) -> Links {
-    match Block::parse(image, address) {
-        Parsed::Whole(b) => Links {
-            name: b.name,
-            unit: b.unit,
-        },
-        Parsed::Refused(_) => Links { name: 0, unit: 0 },
-    }
-}
-
-fn title(image: &[u8], name: u64, address: u64) {
-    match text_of(image, name) {
-        Text::Part(from, to) => {
-            io::write_all(1, part(image, from, to));
-        }
-        Text::NoText => labelled(say::ADDRESS, address),
-    }
-    say(say::COLON);
-}
-
-fn signed(n: i64) {
-    let bits = floats::bits_of_i64(n);
-    say(say::SIGNED);
-    if bits < 0x8000_0000_0000_0000 {
-        io::print_decimal(1, bits);
-    } else {
-        labelled(say::MINUS, 18446744073709551615 - bits + 1);
-    }
-}
-
-fn value(v: Value, text: &[u8]) {
-    match v {
-        Value::Unsigned(n) => labelled(say::UNSIGNED, n),
-        Value::Signed(n) => signed(n),
-        Value::Float(x) => {
-            say(say::FLOAT);
-            decimal::print(x);
-        }
-        Value::Text => quoted(say::TEXT, text),
-        Value::Other => {
-            say(say::VALUE);
-            say(say::OTHER);
+impl<'a> Labels<'a> {
+    // None where no whole conversion stands.
+    fn new(image: &'a [u8], address: u64) -> Self {
+        match Block::parse(image, address) {
+            Ok(block) => Self {
+                name: text_at(image, block.name),
+                unit: text_at(image, block.unit),
+            },
+            Err(_) => Self {
+                name: None,
+                unit: None,
+            },
         }
     }
 }
 
-// 410 is edition 4.10.
-fn edition(number: u64) {
-    labelled(say::EDITION, number / 100);
-    labelled(say::POINT, number / 10 % 10);
-    io::print_decimal(1, number % 10);
-    say(say::CLOSE);
+fn text_at(image: &[u8], link: u64) -> Option<&[u8]> {
+    let span = text_of(image, link)?;
+    image.get(span.from..span.to)
 }
 
-fn limits(r: Request, number: u64, width: u64) {
-    if width < NONE {
-        labelled(say::WIDTH, width);
-        say(say::CLOSE);
+// A conversion without a name has its address.
+fn title(rt: &impl Print, labels: Labels<'_>, address: u64) -> io::Result<()> {
+    match labels.name {
+        Some(name) => rt.write_all(name)?,
+        None => print!(rt; "Address {address}")?,
     }
-    if number < NONE {
-        edition(number);
-    }
-    if r.limit != LIMIT {
-        labelled(say::LIMIT, r.limit as u64);
-        say(say::CLOSE);
-    }
-    if r.room != ROOM {
-        labelled(say::ROOM, r.room as u64);
-        say(say::CLOSE);
-    }
+    print!(rt; ": ")
 }
 
-// The unit behind a phrase, if the link leads to one.
-fn unit(image: &[u8], k: usize, link: u64) {
-    match text_of(image, link) {
-        Text::Part(from, to) => {
-            say(k);
-            io::write_all(1, part(image, from, to));
-        }
-        Text::NoText => {}
-    }
+// The unit behind some words, where there is one.
+fn in_unit(rt: &impl Print, words: &str, labels: Labels<'_>) -> io::Result<()> {
+    let Some(unit) = labels.unit else {
+        return Ok(());
+    };
+    print!(rt; "{words}")?;
+    rt.write_all(unit)
 }
 
 // A value that stays as it is has the unit if it is a number.
-fn unchanged(image: &[u8], v: Value, link: u64) {
-    say(say::STAYS);
-    match v {
-        Value::Text => {}
-        Value::Other => {}
-        _ => unit(image, say::IN, link),
+fn unchanged(rt: &impl Print, labels: Labels<'_>, value: Value) -> io::Result<()> {
+    print!(rt; " stays as it is")?;
+    match value {
+        Value::Text | Value::Other => Ok(()),
+        _ => in_unit(rt, ", in ", labels),
     }
 }
 
 // `out` has the text of an answer that is one.
-fn answer(image: &[u8], a: Answer, v: Value, link: u64, out: &[u8]) {
-    match a {
+fn answer(
+    rt: &impl Print,
+    labels: Labels<'_>,
+    value: Value,
+    applied: Applied,
+    out: &[u8],
+) -> io::Result<()> {
+    match applied.answer {
         Answer::Number(x) => {
-            say(say::GIVES);
-            decimal::print(x);
-            unit(image, say::SPACE, link);
+            print!(rt; " gives {}", Decimal(x))?;
+            in_unit(rt, " ", labels)?;
         }
-        Answer::Text(n) => quoted(say::GIVES_TEXT, part(out, 0, n)),
-        Answer::Unchanged => unchanged(image, v, link),
-        Answer::Unknown => say(say::NOT_KNOWN),
-        Answer::Refused(r) => say::refusal(say::REFUSED, r),
+        Answer::Text(length) => {
+            print!(rt; " gives ")?;
+            quoted(rt, part(out, 0, length))?;
+        }
+        Answer::Unchanged => unchanged(rt, labels, value)?,
+        Answer::Unknown => print!(rt; " is not known")?,
+        Answer::Refused(refusal) => print!(rt; " is refused, {}", Told(refusal))?,
     }
-}
-
-fn counts(checked: u32, applied: u32, malformed: bool) {
-    labelled(say::CHECKED, checked as u64);
-    labelled(say::APPLIED, applied as u64);
-    if malformed {
-        say::odd_table();
-    }
-    say(say::END);
-}
-
-// The text of a value that is one; its length stands for the value.
-fn text_in(request: &[u8]) -> &[u8] {
-    let length = word(request, 16) as usize;
-    match word(request, 8) {
-        3 | 5 => part(request, 56, std::num::wrapping_add_usize(56, length)),
-        _ => part(request, 56, 56),
-    }
+    println!(rt; "{}", Counts(applied))
 }
 
 // The value is converted with the room that the request asks for, and the line is written.
-fn convert(image: &[u8], r: Request, number: u64, width: u64, text: &[u8], lent: &mut [u8]) {
-    let v = r.value;
-    let links = links_of(image, r.address);
-    title(image, links.name, r.address);
-    value(v, text);
-    limits(r, number, width);
-    let x = r.ask(number, width, image, text, lent);
-    let a = x.answer;
-    answer(image, a, v, links.unit, lent);
-    counts(x.checked, x.applied, x.malformed);
+fn convert(rt: &impl Print, image: &[u8], request: Request, text: &[u8]) -> io::Result<()> {
+    let labels = Labels::new(image, request.address);
+    title(rt, labels, request.address)?;
+    value(rt, request.value, text)?;
+    print!(rt; "{}", Limits(request))?;
+    let mut out = [0; ROOM];
+    let lent = &mut out[..request.room.min(ROOM)];
+    let applied = request.ask(image, text, lent);
+    answer(rt, labels, request.value, applied, lent)
 }
 
 // The text is turned back by the inverse of the conversion, and the line is written.
-fn turn_back(image: &[u8], r: Request, text: &[u8]) {
-    let links = links_of(image, r.address);
-    title(image, links.name, r.address);
-    quoted(say::TEXT, text);
-    say(say::BACK);
-    let mut whole = io::large_buffer();
-    let x = back::ask(image, r.address, r.limit, text, &mut whole);
-    let a = x.answer;
-    answer(image, a, Value::Text, links.unit, text);
-    counts(x.checked, x.applied, x.malformed);
+fn turn_back(
+    rt: &impl Print,
+    image: &[u8],
+    address: u64,
+    limit: u32,
+    text: &[u8],
+) -> io::Result<()> {
+    let labels = Labels::new(image, address);
+    title(rt, labels, address)?;
+    value(rt, Value::Text, text)?;
+    print!(rt; " back")?;
+    let applied = back::ask(image, address, limit, text);
+    answer(rt, labels, Value::Text, applied, text)
 }
 
-pub fn write(image: &[u8], request: &[u8]) {
-    let r = Request::read(request);
-    if word(request, 8) == BACK {
-        turn_back(image, r, text_in(request));
-        return;
+pub fn write(rt: &impl Print, image: &[u8], asked: Asked<'_>) -> io::Result<()> {
+    match asked {
+        Asked::Value(request, text) => convert(rt, image, request, text),
+        Asked::Back {
+            address,
+            limit,
+            text,
+        } => turn_back(rt, image, address, limit, text),
     }
-    let mut out = io::buffer();
-    let width = word(request, 40);
-    let number = word(request, 48);
-    convert(
-        image,
-        r,
-        number,
-        width,
-        text_in(request),
-        room(&mut out, 0, r.room),
-    );
 }

@@ -9,44 +9,37 @@
 
 #![tactic(auto)]
 
+mod asked;
 mod back;
 mod line;
-mod say;
+mod said;
 
-ghost use Rattle.std.specs.Prelude.{◌≤◌};
+use asked::Asked;
+use std::io::{self, Read};
 
-use lines::parts::{part, word};
+// The most bytes of the input, and one more.
+const INPUT: usize = 65536;
 
-// The most requests that the input has room for.
-const MOST: u64 = 910;
-
-// One request after the other.
-fn list(input: &[u8], count: usize)
-    requires { count ≤ 910 }
-{
-    let image = part(input, 8 + 72 * count, input.len());
-    for i in 0..count {
-        line::write(image, part(input, 8 + 72 * i, 80 + 72 * i));
-    }
+// The requests, and the image behind them. None where there are fewer bytes than the requests take.
+fn cut(input: &[u8]) -> Option<(&[[u8; Asked::SIZE]], &[u8])> {
+    let (count, rest) = input.split_first_chunk::<8>()?;
+    let size = usize::from_le_bytes(*count).checked_mul(Asked::SIZE)?;
+    let (requests, image) = rest.split_at_checked(size)?;
+    let (requests, _) = requests.as_chunks();
+    Some((requests, image))
 }
 
-fn list_checked(input: &[u8]) {
-    let count = word(input, 0);
-    if count <= MOST {
-        if 8 + 72 * count <= input.len() as u64 {
-            list(input, count as usize);
-            return;
-        }
+fn main(rt: HostRuntime) -> io::Result<()> {
+    let mut input = Vec::new(rt.alloc());
+    rt.reader().take(INPUT as u64).read_to_end(&mut input)?;
+    if input.len() == INPUT {
+        return println!(rt; "bad input: more than 65535 bytes");
     }
-    io::write_all(1, b"bad input: fewer bytes than the requests take\n");
-}
-
-fn main() {
-    let mut input = io::large_buffer();
-    let n = io::read_full(0, &mut input);
-    if n == 65536 {
-        io::write_all(1, b"bad input: more than 65535 bytes\n");
-        return;
+    let Some((requests, image)) = cut(input.as_slice()) else {
+        return println!(rt; "bad input: fewer bytes than the requests take");
+    };
+    for request in requests {
+        line::write(&rt, image, Asked::new(request))?;
     }
-    list_checked(&input[..n]);
+    Ok(())
 }

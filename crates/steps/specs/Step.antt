@@ -1,14 +1,10 @@
 -- A block is opened, and its type says what is to be done with a value (document 01, "Applying"). Assumes nothing: these are definitions.
-use Rattle.std.specs.Prelude.{ℕ, List}
+use Rattle.std.specs.Prelude.{ℕ, List, None, Option, Some}
 use Rattle.common.specs.Types.{type_of}
 use Rattle.common.specs.declared.types.ConversionType.{ConversionType}
 use Rattle.common.specs.declared.types.ConversionType.TheVariants as kind
-use Rattle.common.specs.declared.refusal.Word.{Word}
-use Rattle.common.specs.declared.refusal.Word.TheVariants.{Bits, NoWord}
 use Rattle.blocks.specs.View.{seen}
 use Rattle.blocks.specs.declared.view.View.{View}
-use Rattle.blocks.specs.declared.view.Seen.{Seen}
-use Rattle.blocks.specs.declared.view.Seen.TheVariants.{Open, Cut}
 use Rattle.rules.specs.Values.{values}
 use Rattle.rules.specs.Numbers.{taken}
 use Rattle.rules.specs.declared.number.Value.{Value}
@@ -23,12 +19,12 @@ use Rattle.steps.specs.declared.step.Step.{Step}
 use Rattle.steps.specs.declared.step.Step.TheVariants.{ByKey, ByRange, ByBits, Done}
 
 -- type 11 leaves all but integers unchanged
-abbrev pub grouped_bits : View → Word → Step
-grouped_bits b (Bits bits) = ByBits b bits
-grouped_bits b NoWord = Done plain.Unchanged
+abbrev pub grouped_bits : View → Option ℕ → Step
+grouped_bits b (Some bits) = ByBits b bits
+grouped_bits b None = Done plain.Unchanged
 
 -- "In 4.10, type 11 is unknown: it leaves its value Unchanged, .. and passes nothing to its references" (request [8])
-abbrev pub grouped_in : Edition → View → Word → Step
+abbrev pub grouped_in : Edition → View → Option ℕ → Step
 grouped_in Mdf410 b w = Done plain.Unchanged
 grouped_in Mdf420 b w = grouped_bits b w
 
@@ -52,9 +48,9 @@ typed mode img t b v kind.BitGroups = grouped mode b v
 typed mode img t b v (kind.Unknown n) = Done (by_taken (kind.Unknown n) (values img b.firstval b.valcount) (taken v))
 
 -- a block that the image cuts off cannot be opened
-abbrev pub unless_cut : Mode → List ℕ → List ℕ → Value → Seen → Step
-unless_cut mode img t v (Open b) = typed mode img t b v (type_of b.kind)
-unless_cut mode img t v Cut = Done plain.Broken
+abbrev pub unless_cut : Mode → List ℕ → List ℕ → Value → Option View → Step
+unless_cut mode img t v (Some b) = typed mode img t b v (type_of b.kind)
+unless_cut mode img t v None = Done plain.Broken
 
 unfoldable pub step_of : Mode → List ℕ → List ℕ → ℕ → Value → Step
 step_of mode img t a v = unless_cut mode img t v (seen img a)

@@ -6,10 +6,11 @@ ghost use Rattle.steps.specs.Choice.{default_of, decided, by_reference, chosen_k
 ghost use Rattle.steps.specs.Fits.{Fits};
 ghost use Rattle.leads.specs.Lead.{LeadIn};
 
-use crate::plain::Plain;
+use crate::plain::{Plain, values_of};
 use blocks::view::View;
+use common::text::Span;
 use leads::lead::{Lead, lead_at};
-use rules::number::{Taken, Value, take};
+use rules::number::{Value, take};
 use rules::search::{Searched, search_key, search_range};
 
 // What the deciding reference leads to: a nested block, which gets the original value, or an answer.
@@ -23,16 +24,13 @@ pub enum Choice {
 fn default_of(image: &[u8], b: View, fallback: bool) -> Choice
     ensures { (result ≡ default_of image.now b fallback) × ChoiceIn image.now result }
 {
-    let refs = b.refs;
-    if fallback {
-        if 2 < refs {
-            return match lead_at(image, b, refs - 1) {
-                Lead::Nested(a) => Choice::Nested(a),
-                _ => Choice::Done(Plain::Unchanged),
-            };
-        }
+    if !fallback || b.refs <= 2 {
+        return Choice::Done(Plain::Unchanged);
     }
-    Choice::Done(Plain::Unchanged)
+    match lead_at(image, b, b.refs - 1) {
+        Lead::Nested(a) => Choice::Nested(a),
+        Lead::Words(_) | Lead::Nil | Lead::Elsewhere => Choice::Done(Plain::Unchanged),
+    }
 }
 
 fn decide(image: &[u8], b: View, lead: Lead, matched: bool, fallback: bool) -> Choice
@@ -40,15 +38,11 @@ fn decide(image: &[u8], b: View, lead: Lead, matched: bool, fallback: bool) -> C
     ensures { (result ≡ decided lead matched (default_of image.now b fallback)) × ChoiceIn image.now result }
 {
     match lead {
-        Lead::Words(from, to) => Choice::Done(Plain::Words(from, to)),
+        Lead::Words(run) => Choice::Done(Plain::Words(run)),
         Lead::Nested(a) => Choice::Nested(a),
-        Lead::Nil => if matched {
-            // The empty text.
-            Choice::Done(Plain::Words(0, 0))
-        } else {
-            default_of(image, b, fallback)
-        },
-        Lead::Elsewhere => default_of(image, b, fallback),
+        // The empty text.
+        Lead::Nil if matched => Choice::Done(Plain::Words(Span { from: 0, to: 0 })),
+        Lead::Nil | Lead::Elsewhere => default_of(image, b, fallback),
     }
 }
 
@@ -60,17 +54,20 @@ fn follow(image: &[u8], b: View, s: Searched, fallback: bool) -> Choice
     decide(image, b, lead, s.is_match(), fallback)
 }
 
-// Type 7, which has no default conversion.
+// Type 7, which has no default conversion. It and type 8 stay two functions: they share `follow`, and a search handed in would need a closure for one
+// line, with a flag for the default beside it, and a table to tell of where type 7 has none.
 pub fn chosen_key(image: &[u8], b: View, v: Value) -> Choice
     requires { Fits image.now b }
     ensures { (result ≡ chosen_key image.now b (taken v)) × ChoiceIn image.now result }
 {
     match take(v) {
-        Taken::Number(x, _) => {
-            let s = search_key(image, b.firstval as usize, b.valcount as usize, x);
-            follow(image, b, s, false)
-        }
-        Taken::NoNumber => Choice::Done(Plain::Unchanged),
+        Some(taken) => follow(
+            image,
+            b,
+            search_key(values_of(image, b), taken.number),
+            false,
+        ),
+        None => Choice::Done(Plain::Unchanged),
     }
 }
 
@@ -88,15 +85,14 @@ pub fn chosen_range(image: &[u8], b: View, v: Value) -> Consulted
         × ChoiceIn image.now result.choice }
 {
     match take(v) {
-        Taken::Number(x, whole) => {
-            let s = search_range(image, b.firstval as usize, b.valcount as usize, whole, x);
-            let choice = follow(image, b, s, true);
+        Some(taken) => {
+            let s = search_range(values_of(image, b), taken.whole, taken.number);
             Consulted {
-                choice,
+                choice: follow(image, b, s, true),
                 malformed: s.is_malformed(),
             }
         }
-        Taken::NoNumber => Consulted {
+        None => Consulted {
             choice: Choice::Done(Plain::Unchanged),
             malformed: false,
         },

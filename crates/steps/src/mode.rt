@@ -3,16 +3,15 @@
 ghost use Rattle.std.specs.Prelude.{◌≡◌, ◌%◌, ◌^◌};
 ghost use Rattle.steps.specs.Mode.{standard, bits_of};
 
-use common::refusal::Word;
 use rules::number::Value;
 
-#[derive(Clone, Copy)]
+#[derive(Clone, Copy, Debug, PartialEq, Eq)]
 pub enum Edition {
     Mdf410,
     Mdf420,
 }
 
-#[derive(Clone, Copy)]
+#[derive(Clone, Copy, Debug, PartialEq, Eq)]
 pub struct Mode {
     pub width: u32,
     pub edition: Edition,
@@ -33,22 +32,16 @@ impl Mode {
 fn low_bits(bits: u64, width: u32) -> u64
     ensures { result ≡ bits % 2 ^ width }
 {
-    if width < 64 {
-        bits % (1u64 << width)
-    } else {
-        bits
-    }
+    bits & !u64::MAX.unbounded_shl(width)
 }
 
 // The bits of an integer that reach the masks; a signed one in two's complement.
-pub fn bits_of(mode: Mode, v: Value) -> Word
+pub fn bits_of(mode: Mode, v: Value) -> Option<u64>
     ensures { result ≡ bits_of mode v }
 {
     match v {
-        Value::Unsigned(n) => Word::Bits(low_bits(n, mode.width)),
-        Value::Signed(n) => Word::Bits(low_bits(floats::bits_of_i64(n), mode.width)),
-        Value::Float(_) => Word::NoWord,
-        Value::Text => Word::NoWord,
-        Value::Other => Word::NoWord,
+        Value::Unsigned(n) => Some(low_bits(n, mode.width)),
+        Value::Signed(n) => Some(low_bits(floats::bits_of_i64(n), mode.width)),
+        Value::Float(_) | Value::Text | Value::Other => None,
     }
 }

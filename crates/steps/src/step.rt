@@ -5,9 +5,8 @@ ghost use Rattle.steps.specs.Fits.{Fits};
 ghost use Rattle.steps.specs.Step.{grouped, typed, step_of, StepIn};
 
 use crate::mode::{Edition, Mode, bits_of};
-use crate::plain::{Plain, number_rule, text_to_text, text_to_value};
-use blocks::view::{Seen, View};
-use common::refusal::Word;
+use crate::plain::{Plain, number_rule, text_to_text, text_to_value, values_of};
+use blocks::view::View;
 use common::types::ConversionType;
 use rules::number::Value;
 
@@ -24,38 +23,50 @@ pub enum Step {
 fn groups(mode: Mode, b: View, v: Value) -> Step
     ensures { result ≡ grouped mode b v }
 {
-    let edition = mode.edition;
-    match edition {
+    match mode.edition {
         Edition::Mdf410 => Step::Done(Plain::Unchanged),
         Edition::Mdf420 => match bits_of(mode, v) {
-            Word::Bits(bits) => Step::ByBits(b, bits),
-            Word::NoWord => Step::Done(Plain::Unchanged),
+            Some(bits) => Step::ByBits(b, bits),
+            None => Step::Done(Plain::Unchanged),
         },
     }
 }
 
-fn by_type(mode: Mode, image: &[u8], b: View, v: Value, text: &[u8]) -> Step
-    requires { Fits image.now b }
-    ensures { (result ≡ typed mode image.now text.now b v (type_of b.kind)) × StepIn image.now result }
-{
-    let kind = ConversionType::from_u8(b.kind);
-    match kind {
-        ConversionType::ValueToText => Step::ByKey(b),
-        ConversionType::RangeToText => Step::ByRange(b),
-        ConversionType::BitGroups => groups(mode, b, v),
-        ConversionType::TextToValue => Step::Done(text_to_value(image, b, v, text)),
-        ConversionType::TextToText => Step::Done(text_to_text(image, b, v, text)),
-        _ => Step::Done(number_rule(image, b, kind, v)),
-    }
+// What goes with a value from block to block: the mode, the image, and the bytes of a text value.
+#[derive(Clone, Copy)]
+pub struct Asked<'a> {
+    pub mode: Mode,
+    pub image: &'a [u8],
+    pub text: &'a [u8],
 }
 
-// The block at `at`, whose header lies in the image.
-pub fn step_at(mode: Mode, image: &[u8], at: u64, v: Value, text: &[u8]) -> Step
-    requires { at + 24 ≤ length image.now }
-    ensures { (result ≡ step_of mode image.now text.now at v) × StepIn image.now result }
-{
-    match View::look(image, at as usize) {
-        Seen::Open(b) => by_type(mode, image, b, v, text),
-        Seen::Cut => Step::Done(Plain::Broken),
+impl Asked<'_> {
+    // `Fits` stays a clause, also in `plain` and `choice`, and is no field: the step hands the view on, which is asked of the image by place wherever it stands.
+    fn by_type(&self, b: View, v: Value) -> Step
+        requires { Fits self.now.image.now b }
+        ensures { (result ≡ typed self.now.mode self.now.image.now self.now.text.now b v (type_of b.kind))
+            × StepIn self.now.image.now result }
+    {
+        let kind = ConversionType::from(b.kind);
+        match kind {
+            ConversionType::ValueToText => Step::ByKey(b),
+            ConversionType::RangeToText => Step::ByRange(b),
+            ConversionType::BitGroups => groups(self.mode, b, v),
+            ConversionType::TextToValue => Step::Done(text_to_value(self.image, b, v, self.text)),
+            ConversionType::TextToText => Step::Done(text_to_text(self.image, b, v, self.text)),
+            _ => Step::Done(number_rule(values_of(self.image, b), kind, v)),
+        }
+    }
+
+    // The block at `at`, whose header lies in the image.
+    pub fn step_at(&self, at: u64, v: Value) -> Step
+        requires { at + 24 ≤ length self.now.image.now }
+        ensures { (result ≡ step_of self.now.mode self.now.image.now self.now.text.now at v)
+            × StepIn self.now.image.now result }
+    {
+        match View::look(self.image, at as usize) {
+            Some(b) => self.by_type(b, v),
+            None => Step::Done(Plain::Broken),
+        }
     }
 }

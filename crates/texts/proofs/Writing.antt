@@ -1,5 +1,6 @@
 -- How long a text block is, what the writer answers after each test, and that what was written is read as the same text. One proof serves both ids.
 -- Assumes nothing.
+use Rattle.std.specs.Prelude.{Err, Ok, Option, Result, Some}
 use mathlib.Core.Path.{◌≡◌, refl, sym, ap, ◌∙◌}
 use mathlib.Core.Bool.{Bool, true, false, cond, ◌||◌}
 use mathlib.Core.List.{List, [], ◌∷◌, ◌++◌, append_assoc}
@@ -22,16 +23,13 @@ use Rattle.common.specs.Written.{WriteCall, write_call, holding}
 use Rattle.common.proofs.Holding.{Held, held}
 use Rattle.common.specs.declared.header.Header.{Header}
 use Rattle.common.specs.declared.refusal.Refusal.TheVariants.{ZeroByte}
-use Rattle.common.specs.declared.text.Text.{Text}
-use Rattle.common.specs.declared.text.Text.TheVariants.{Part}
-use Rattle.common.specs.declared.written.Written.{Written}
-use Rattle.common.specs.declared.written.Written.TheVariants.{Bytes, Unwritten}
 use Rattle.texts.specs.Read.{id_word, found_at, link_text, read_as, reading}
 use Rattle.texts.specs.Write.{holds_zero, up_to_eight, block_size, text_block, writing_text}
 use Rattle.texts.specs.declared.read.TextId.{TextId}
 use Rattle.texts.specs.declared.read.TextId.TheVariants.{Tx, Md}
-use Rattle.texts.specs.declared.read.TextRead.TheVariants.{Found}
-use Rattle.texts.proofs.Reading.{read_inside, read_as_id, as_linked}
+use Rattle.texts.proofs.Reading.{text_read, read_inside, read_as_id, as_linked}
+use Rattle.common.specs.declared.refusal.Refusal.{Refusal}
+use Rattle.common.specs.declared.text.Span.{Span}
 
 -- ---- the length
 -- one to eight zeros stand behind the text: the zero byte, and those up to a multiple of 8
@@ -110,27 +108,27 @@ block_put id text o₀ {o₁} {o₂} {o₃} {word} {size} named long p q r =
 
 -- ---- the answer
 module _ (id : TextId) (text out : List ℕ) where
-  pub zero_refused : holds_zero text ≡ true → writing_text id text out ≡ write_call (Unwritten ZeroByte) out
+  pub zero_refused : holds_zero text ≡ true → writing_text id text out ≡ write_call (Err ZeroByte) out
   unfolding writing_text
-  zero_refused h = ap (λ (z : Bool). cond z (write_call (Unwritten ZeroByte) out) (holding (text_block id text) out)) h
+  zero_refused h = ap (λ (z : Bool). cond z (write_call (Err ZeroByte) out) (holding (text_block id text) out)) h
 
   pub clean_held : holds_zero text ≡ false → writing_text id text out ≡ holding (text_block id text) out
   unfolding writing_text
-  clean_held h = ap (λ (z : Bool). cond z (write_call (Unwritten ZeroByte) out) (holding (text_block id text) out)) h
+  clean_held h = ap (λ (z : Bool). cond z (write_call (Err ZeroByte) out) (holding (text_block id text) out)) h
 
   -- an answer of n bytes: the text holds no zero byte, and the output begins with its block, of n bytes
-  pub text_written : (w : Written) (n : ℕ) (after : List ℕ) → write_call w after ≡ writing_text id text out → w ≡ Bytes n
+  pub text_written : (w : Result ℕ Refusal) (n : ℕ) (after : List ℕ) → write_call w after ≡ writing_text id text out → w ≡ Ok n
       → (holds_zero text ≡ false) × Held (text_block id text) out n after
   text_written w n after made e = go (holds_zero text) refl
     where
       go : (z : Bool) → holds_zero text ≡ z → (holds_zero text ≡ false) × Held (text_block id text) out n after
       go true z =
-          let same : w ≡ Unwritten ZeroByte = ap (λ (c : WriteCall). c.result) (made ∙ zero_refused z) in
+          let same : w ≡ Err ZeroByte = ap (λ (c : WriteCall). c.result) (made ∙ zero_refused z) in
           clash cc
       go false z = (z, held (text_block id text) out w n after (made ∙ clean_held z) e)
 
   -- "zeros up to a multiple of 8": the length that is answered is one, and at most the text's and 32
-  pub written_size : (w : Written) (n : ℕ) (after : List ℕ) → write_call w after ≡ writing_text id text out → w ≡ Bytes n
+  pub written_size : (w : Result ℕ Refusal) (n : ℕ) (after : List ℕ) → write_call w after ≡ writing_text id text out → w ≡ Ok n
       → (n % 8 ≡ 0) × (n ≤ length text + 32)
   written_size w n after made e =
       let long : n ≡ block_size (length text) = (text_written w n after made e).1.long ∙ length_text_block id text in
@@ -175,11 +173,11 @@ module _ (id : TextId) (before text behind : List ℕ) where
     unfolding header_at has_id
     named = eq-eqb (word32 image a) (id_word id) (ap (λ (h : Header). h.id) header)
 
-    run : run_at (id_word id) image a ≡ Part (a + 24) (a + block_size n)
+    run : run_at (id_word id) image a ≡ Some (record { from = a + 24; to = a + block_size n })
     unfolding header_at
     run =
         let long : word64 image (a + 8) ≡ block_size n = ap (λ (h : Header). h.length) header in
-        run_whole (id_word id) image a named (omega (arith, long, size_least n)) (omega (arith, long, long_enough)) ∙ ap (λ (k : ℕ). Part (a + 24) (a + k)) long
+        run_whole (id_word id) image a named (omega (arith, long, size_least n)) (omega (arith, long, long_enough)) ∙ ap (λ (k : ℕ). Some (record { from = a + 24; to = a + k })) long
 
     bytes : text_bytes image (a + 24) (a + block_size n) ≡ text
     unfolding text_bytes
@@ -189,31 +187,32 @@ module _ (id : TextId) (before text behind : List ℕ) where
         ∙ until_text text (zeros (up_to_eight (24 + n + 1)) ++ behind) m (omega (arith, size_least n)) clean
 
     -- the same id, and the part of the image that is the text
-    pub read_written : reading (before ++ (text_block id text ++ behind)) (length before) ≡ Found id (length before + 24) (length before + 24 + length text)
+    pub read_written : reading (before ++ (text_block id text ++ behind)) (length before)
+        ≡ text_read id (record { from = length before + 24; to = length before + 24 + length text })
     unfolding read_as inside
     read_written =
         let within : inside image a ≡ true = le-leb (a + 24) (length image) (omega (arith, long_enough, size_least n)) in
-        read_inside image a within ∙ read_as_id image a id named ∙ ap (λ (t : Text). found_at id a (cut_off image t)) run
-        ∙ ap (λ (bs : List ℕ). Found id (a + 24) (a + 24 + length bs)) bytes
+        read_inside image a within ∙ read_as_id image a id named ∙ ap (λ (t : Option Span). found_at id a (cut_off image t)) run
+        ∙ ap (λ (bs : List ℕ). text_read id (record { from = a + 24; to = a + 24 + length bs })) bytes
 
-    pub shows_written : shown (before ++ (text_block id text ++ behind)) (Part (length before + 24) (length before + 24 + length text)) ≡ text
+    pub shows_written : shown (before ++ (text_block id text ++ behind)) (Some (record { from = length before + 24; to = length before + 24 + length text })) ≡ text
     shows_written =
-        ap (λ (bs : List ℕ). shown image (Part (a + 24) (a + 24 + length bs))) (sym bytes) ∙ text_shown image (a + 24) (a + block_size n) ∙ bytes
+        ap (λ (bs : List ℕ). shown image (Some (record { from = a + 24; to = a + 24 + length bs }))) (sym bytes) ∙ text_shown image (a + 24) (a + block_size n) ∙ bytes
 
 -- what a conversion takes by a link to it, wherever it does not begin the image: the text of a ##TX, none of a ##MD
 pub written_linked : (id : TextId) (before text behind : List ℕ) → holds_zero text ≡ false → block_size (length text) < 2 ^ 64 → (length before ≡ 0 → ⊥)
-    → text_of (before ++ (text_block id text ++ behind)) (length before) ≡ link_text (Found id (length before + 24) (length before + 24 + length text))
+    → text_of (before ++ (text_block id text ++ behind)) (length before) ≡ link_text (text_read id (record { from = length before + 24; to = length before + 24 + length text }))
 written_linked id before text behind clean small far =
     as_linked (before ++ (text_block id text ++ behind)) (length before) far ∙ ap link_text (read_written id before text behind clean small)
 
 -- the writer's output, read from its byte 0 on; an output has fewer than 2^64 bytes
-pub output_read : (id : TextId) (text out : List ℕ) (w : Written) (n : ℕ) (after : List ℕ) → write_call w after ≡ writing_text id text out → w ≡ Bytes n
-    → length out < 2 ^ 64 → (reading after 0 ≡ Found id 24 (24 + length text)) × (shown after (Part 24 (24 + length text)) ≡ text)
+pub output_read : (id : TextId) (text out : List ℕ) (w : Result ℕ Refusal) (n : ℕ) (after : List ℕ) → write_call w after ≡ writing_text id text out → w ≡ Ok n
+    → length out < 2 ^ 64 → (reading after 0 ≡ text_read id (record { from = 24; to = 24 + length text })) × (shown after (Some (record { from = 24; to = 24 + length text })) ≡ text)
 output_read id text out w n after made e memory =
     let fact = text_written id text out w n after made e in
     let h = fact.1 in
     let small : block_size (length text) < 2 ^ 64 = omega (arith, h.long, h.fits, length_text_block id text) in
     let none : List ℕ = [] in (
       ap (λ (img : List ℕ). reading img 0) h.begins ∙ read_written id none text (drop n out) fact.0 small,
-      ap (λ (img : List ℕ). shown img (Part 24 (24 + length text))) h.begins ∙ shows_written id none text (drop n out) fact.0 small,
+      ap (λ (img : List ℕ). shown img (Some (record { from = 24; to = 24 + length text }))) h.begins ∙ shows_written id none text (drop n out) fact.0 small,
     )

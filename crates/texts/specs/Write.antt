@@ -1,12 +1,11 @@
 -- Writing a text block (request [13]: "the 24-byte header with no links, text, one zero byte, then zeros up to a multiple of 8, all in its block length.
 -- Text can't hold a zero byte"). Assumes nothing: these are definitions.
-use Rattle.std.specs.Prelude.{ℕ, ◌+◌, ◌-◌, ◌%◌, Bool, false, cond, ◌||◌, List, [], ◌∷◌, ◌++◌, eqb}
+use Rattle.std.specs.Prelude.{ℕ, Err, ◌+◌, ◌-◌, ◌%◌, Bool, false, cond, ◌||◌, List, [], ◌∷◌, ◌++◌, eqb}
 use Rattle.std.proofs.Math.ListN as ListN
 use Rattle.words.specs.Words.{zeros}
 use Rattle.common.specs.Header.{header_bytes}
 use Rattle.common.specs.Written.{WriteCall, write_call, holding}
 use Rattle.common.specs.declared.refusal.Refusal.TheVariants.{ZeroByte}
-use Rattle.common.specs.declared.written.Written.TheVariants.{Unwritten}
 use Rattle.texts.specs.Read.{id_word}
 use Rattle.texts.specs.declared.read.TextId.{TextId}
 
@@ -31,4 +30,4 @@ text_block id text =
 
 -- "21 ZeroByte, then 8"
 unfoldable pub writing_text : TextId → List ℕ → List ℕ → WriteCall
-writing_text id text out = cond (holds_zero text) (write_call (Unwritten ZeroByte) out) (holding (text_block id text) out)
+writing_text id text out = cond (holds_zero text) (write_call (Err ZeroByte) out) (holding (text_block id text) out)

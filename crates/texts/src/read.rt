@@ -4,10 +4,10 @@ ghost use Rattle.texts.specs.Read.{id_word, read_as, read_at, reading};
 
 use common::header::Header;
 use common::refusal::Refusal;
-use common::text::{Text, run_at, text_end};
+use common::text::{Span, run_at, text_end};
 
 // The id of a text block.
-#[derive(Clone, Copy)]
+#[derive(Clone, Copy, Debug, PartialEq, Eq)]
 pub enum TextId {
     // ##TX, a plain text: what conversions take.
     Tx,
@@ -15,11 +15,11 @@ pub enum TextId {
     Md,
 }
 
-// A block's id and where its text stands in the image, from the first place up to the second; or why there is none.
-#[derive(Clone, Copy)]
-pub enum TextRead {
-    Found(TextId, usize, usize),
-    Unread(Refusal),
+// A block's id, and where its text stands in the image.
+#[derive(Clone, Copy, Debug, PartialEq, Eq)]
+pub struct TextRead {
+    pub id: TextId,
+    pub text: Span,
 }
 
 impl TextId {
@@ -38,41 +38,39 @@ impl TextId {
 }
 
 // The text of the block at `at`, which has this id.
-fn read_as(id: TextId, image: &[u8], at: usize) -> TextRead
+#[tactic(auto, unfolding(crate::specs::Read::read_as))]
+fn read_as(id: TextId, image: &[u8], at: usize) -> Result<TextRead, Refusal>
     requires { at + 24 ≤ length image.now }
     ensures { result ≡ read_as id image.now at }
 {
-    match run_at(image, at, id.word()) {
-        Text::Part(from, to) => {
-            let end = text_end(image, from, to);
-            TextRead::Found(id, from, end)
-        }
-        Text::NoText => TextRead::Unread(Refusal::Short(at as u64)),
-    }
+    let run = run_at(image, at, id.word()).ok_or(Refusal::Short(at as u64))?;
+    let text = Span {
+        from: run.from,
+        to: text_end(image, run),
+    };
+    Ok(TextRead { id, text })
 }
 
 // The block at `at`, whose header lies in the image, by its id.
-fn read_at(image: &[u8], at: usize) -> TextRead
+#[tactic(auto, using(crate::proofs::Reading::read_as_id), unfolding(crate::specs::Read::read_at, common::specs::Header::has_id))]
+fn read_at(image: &[u8], at: usize) -> Result<TextRead, Refusal>
     requires { at + 24 ≤ length image.now }
     ensures { result ≡ read_at image.now at }
 {
-    let word = words::u32_at(image, at);
-    if word == TextId::Tx.word() {
-        return read_as(TextId::Tx, image, at);
+    match words::u32_at(image, at) {
+        Header::TEXT => read_as(TextId::Tx, image, at),
+        TextId::METADATA => read_as(TextId::Md, image, at),
+        _ => Err(Refusal::NotTextBlock(at as u64)),
     }
-    if word == TextId::Md.word() {
-        return read_as(TextId::Md, image, at);
-    }
-    TextRead::Unread(Refusal::NotTextBlock(at as u64))
 }
 
 // The text block at an address of an image. Address 0 is an address like any other: it is no link.
-pub fn read(image: &[u8], address: u64) -> TextRead
+#[tactic(auto, using(common::proofs::Headers::inside_fits), unfolding(crate::specs::Read::reading))]
+pub fn read(image: &[u8], address: u64) -> Result<TextRead, Refusal>
     ensures { result ≡ reading image.now address }
 {
-    if Header::is_inside(image, address) {
-        read_at(image, address as usize)
-    } else {
-        TextRead::Unread(Refusal::Outside(address))
+    if !Header::is_inside(image, address) {
+        return Err(Refusal::Outside(address));
     }
+    read_at(image, address as usize)
 }

@@ -1,5 +1,6 @@
 -- What acceptance tells (demand 3): every block of the unfolded tree is whole and has its four links, the depth fits, and N is the tree's size; and a higher limit
 -- changes no accepted count. Assumes nothing.
+use Rattle.std.specs.Prelude.{Err, Ok}
 use mathlib.Core.Path.{◌≡◌, refl, sym, ap, ◌∙◌}
 use mathlib.Core.Bool.{Bool, true, false, cond}
 use mathlib.Core.List.{List, [], ◌∷◌, ◌++◌}
@@ -15,12 +16,10 @@ use Rattle.common.proofs.Headers.{inside_fits}
 use Rattle.blocks.specs.Block.{block_end, block_at, opened, few_links}
 use Rattle.blocks.specs.Place.{references}
 use Rattle.blocks.specs.declared.Block.{Block}
-use Rattle.blocks.specs.declared.Parsed.TheVariants.{Whole, Refused}
 use Rattle.tree.specs.Walk.{Walk, End, complete, fault, deep, stopped, onward, and_then, followed, walk_links, unless_few, unless_short, entered, on, classed, walk, trace, answer, checked}
 use Rattle.tree.specs.Tree.{leads_in, sizes, size, Each, Sound}
 use Rattle.tree.specs.declared.Link.{Link}
 use Rattle.tree.specs.declared.Link.TheVariants.{Nowhere, Back, Nested}
-use Rattle.tree.specs.declared.Checked.TheVariants.{Accepted, Unsound}
 use Rattle.tree.proofs.Answers.{under, accepted}
 use Rattle.tree.proofs.Checks.{Rooted, walked, checked_walk}
 
@@ -71,15 +70,15 @@ module _ (f : ℕ → Walk) (img path : List ℕ) (g : ℕ → ℕ) (P : ℕ →
 
 -- a walk that is complete was of a whole block with its four links
 opens : (img : List ℕ) (a : ℕ) (g : Block → Walk) → (entered img a g).ending ≡ complete
-    → (4 ≤ (block_at img a).links) × (opened img a ≡ Whole (block_at img a)) × (entered img a g ≡ g (block_at img a))
+    → (4 ≤ (block_at img a).links) × (opened img a ≡ Ok (block_at img a)) × (entered img a g ≡ g (block_at img a))
 unfolding entered opened few_links block_at
 opens img a g = go (few_links img a) refl (leb (block_end img a) (length img))
   where
     go : (f : Bool) → few_links img a ≡ f → (b : Bool)
-        → (unless_few a f (unless_short a (cond b (Whole (block_at img a)) (Refused (Short a))) g)).ending ≡ complete
+        → (unless_few a f (unless_short a (cond b (Ok (block_at img a)) (Err (Short a))) g)).ending ≡ complete
         → (4 ≤ (block_at img a).links)
-        × (cond b (Whole (block_at img a)) (Refused (Short a)) ≡ Whole (block_at img a))
-        × (unless_few a f (unless_short a (cond b (Whole (block_at img a)) (Refused (Short a))) g) ≡ g (block_at img a))
+        × (cond b (Ok (block_at img a)) (Err (Short a)) ≡ Ok (block_at img a))
+        × (unless_few a f (unless_short a (cond b (Ok (block_at img a)) (Err (Short a))) g) ≡ g (block_at img a))
     go true t b p = clash cc
     go false t true p = (ltb-false _ _ t, refl, refl)
     go false t false p = clash cc
@@ -111,14 +110,14 @@ pub record Acceptance (img : List ℕ) (a l n : ℕ) : Type 0 where
   pub some : 1 ≤ n
   pub few : n ≤ l
 
-module _ (img : List ℕ) (a l n : ℕ) (e : checked img a l ≡ Accepted n) where
-  the_walk : Rooted img a l × (answer l 0 (trace img a) ≡ Accepted n)
-  the_walk = walked img a l (Accepted n) (λ q. no_outside q) (λ q. no_other q) e
+module _ (img : List ℕ) (a l n : ℕ) (e : checked img a l ≡ Ok n) where
+  the_walk : Rooted img a l × (answer l 0 (trace img a) ≡ Ok n)
+  the_walk = walked img a l (Ok n) (λ q. no_outside q) (λ q. no_other q) e
     where
-      no_outside : Unsound (Outside a) ≡ Accepted n → ⊥
+      no_outside : Err (Outside a) ≡ Ok n → ⊥
       no_outside q = clash cc
 
-      no_other : Unsound (NotConversion a) ≡ Accepted n → ⊥
+      no_other : Err (NotConversion a) ≡ Ok n → ⊥
       no_other q = clash cc
 
   pub acceptance : Acceptance img a l n
@@ -137,7 +136,7 @@ module _ (img : List ℕ) (a l n : ℕ) (e : checked img a l ≡ Accepted n) whe
       }
 
   -- raising the limit changes no accepted count, and turns no acceptance into a refusal
-  pub raised : (m : ℕ) → l ≤ m → checked img a m ≡ Accepted n
+  pub raised : (m : ℕ) → l ≤ m → checked img a m ≡ Ok n
   raised m k =
       let w = the_walk in
       let h = accepted l 0 (trace img a) n w.1 in

@@ -1,4 +1,5 @@
 -- How the limited answer goes over the steps of a walk. Assumes nothing.
+use Rattle.std.specs.Prelude.{Err, Ok, Result}
 use mathlib.Core.Path.{◌≡◌, refl, sym, ap, ◌∙◌}
 use mathlib.Core.Bool.{Bool, true, false}
 use mathlib.Core.Logic.{◌⊎◌, inl, inr, ⊎_elim}
@@ -13,8 +14,7 @@ use lib.Seq.{get_or-append-add}
 use Rattle.words.proofs.Clash.{clash}
 use Rattle.common.specs.declared.refusal.Refusal.TheVariants.{Limit}
 use Rattle.tree.specs.Walk.{Walk, Fault, End, complete, fault, nothing, stopped, visit, onward, and_then, fault_refusal, ended, answer}
-use Rattle.tree.specs.declared.Checked.{Checked}
-use Rattle.tree.specs.declared.Checked.TheVariants.{Accepted, Unsound}
+use Rattle.common.specs.declared.refusal.Refusal.{Refusal}
 
 pub lt_or_le : (a b : ℕ) → (a < b) ⊎ (b ≤ a)
 lt_or_le a b = go (ltb a b) refl
@@ -24,13 +24,13 @@ lt_or_le a b = go (ltb a b) refl
     go false e = inr (ltb-false a b e)
 
 -- an accepted count goes on, a refusal stays
-abbrev pub after : Checked → (ℕ → Checked) → Checked
-after (Accepted n) g = g n
-after (Unsound r) g = Unsound r
+abbrev pub after : Result ℕ Refusal → (ℕ → Result ℕ Refusal) → Result ℕ Refusal
+after (Ok n) g = g n
+after (Err r) g = Err r
 
 -- ---- more visits than the limit leaves, or not
 module _ (l v : ℕ) (w : Walk) where
-  pub over : l - v < length w.visits → answer l v w ≡ Unsound (Limit (get_or w.visits (l - v) 0))
+  pub over : l - v < length w.visits → answer l v w ≡ Err (Limit (get_or w.visits (l - v) 0))
   unfolding answer
   over h = rw (lt-ltb _ _ h)
 
@@ -38,17 +38,17 @@ module _ (l v : ℕ) (w : Walk) where
   unfolding answer
   under h = rw (le-ltb _ _ h)
 
-pub answer_nothing : (l v : ℕ) → answer l v nothing ≡ Accepted v
-answer_nothing l v = under l v nothing (omega arith) ∙ ap Accepted (add-zero v)
+pub answer_nothing : (l v : ℕ) → answer l v nothing ≡ Ok v
+answer_nothing l v = under l v nothing (omega arith) ∙ ap Ok (add-zero v)
 
-pub answer_stopped : (l v : ℕ) (f : Fault) → answer l v (stopped f) ≡ Unsound (fault_refusal f)
+pub answer_stopped : (l v : ℕ) (f : Fault) → answer l v (stopped f) ≡ Err (fault_refusal f)
 answer_stopped l v f = under l v (stopped f) (omega arith)
 
 -- the limit is used up
-pub answer_full : (l a : ℕ) (w : Walk) → answer l l (visit a w) ≡ Unsound (Limit a)
+pub answer_full : (l a : ℕ) (w : Walk) → answer l l (visit a w) ≡ Err (Limit a)
 answer_full l a w =
     let none : l - l ≡ 0 = omega arith in
-    over l l (visit a w) (omega arith) ∙ ap (λ (k : ℕ). Unsound (Limit (get_or (a ∷ w.visits) k 0))) none
+    over l l (visit a w) (omega arith) ∙ ap (λ (k : ℕ). Err (Limit (get_or (a ∷ w.visits) k 0))) none
 
 -- one visit more
 pub answer_visit : (l v a : ℕ) (w : Walk) → v < l → answer l v (visit a w) ≡ answer l (v + 1) w
@@ -58,7 +58,7 @@ answer_visit l v a w h =
     ⊎_elim
     (λ lt.
     over l v (visit a w) (omega arith)
-    ∙ ap (λ (k : ℕ). Unsound (Limit (get_or (a ∷ w.visits) k 0))) rest
+    ∙ ap (λ (k : ℕ). Err (Limit (get_or (a ∷ w.visits) k 0))) rest
     ∙ sym (over l (v + 1) w lt))
     (λ le. under l v (visit a w) (omega arith) ∙ ap (λ (n : ℕ). ended n w.ending) count ∙ sym (under l (v + 1) w le))
     (lt_or_le (l - (v + 1)) (length w.visits))
@@ -68,14 +68,14 @@ module _ (l v : ℕ) (vs : List ℕ) (w : Walk) (h : v ≤ l) where
   abbrev front : End → Walk
   front e = record { visits = vs; ending = e }
 
-  abbrev then : Checked → Checked
+  abbrev then : Result ℕ Refusal → Result ℕ Refusal
   then x = after x (λ n. answer l n w)
 
   -- the first is longer than the limit leaves
   cut_short : (e : End) → l - v < length vs → answer l v (onward e vs w) ≡ then (answer l v (front e))
   cut_short complete lt =
       over l v (onward complete vs w) (omega (arith, length-append vs w.visits))
-      ∙ ap (λ (n : ℕ). Unsound (Limit n)) (get_or-append vs w.visits 0 (l - v) lt)
+      ∙ ap (λ (n : ℕ). Err (Limit n)) (get_or-append vs w.visits 0 (l - v) lt)
       ∙ sym (ap then (over l v (front complete) lt))
   cut_short (fault f) lt = over l v (front (fault f)) lt ∙ sym (ap then (over l v (front (fault f)) lt))
 
@@ -88,7 +88,7 @@ module _ (l v : ℕ) (vs : List ℕ) (w : Walk) (h : v ≤ l) where
       (λ lt.
       over l v (onward complete vs w) (omega arith)
       ∙ ap
-      (λ (n : ℕ). Unsound (Limit n))
+      (λ (n : ℕ). Err (Limit n))
       (ap (λ (k : ℕ). get_or (vs ++ w.visits) k 0) rest ∙ get_or-append-add vs w.visits (l - (v + length vs)) 0)
       ∙ sym (over l (v + length vs) w lt))
       (λ ge.
@@ -109,11 +109,11 @@ answer_then l v u w h =
     (lt_or_le (l - v) (length u.visits))
 
 -- ---- an accepted walk: it is complete, it fits the limit, and its count is that of its visits
-ended_accepted : (n m : ℕ) (e : End) → ended n e ≡ Accepted m → (e ≡ complete) × (n ≡ m)
+ended_accepted : (n m : ℕ) (e : End) → ended n e ≡ Ok m → (e ≡ complete) × (n ≡ m)
 ended_accepted n m complete p = (refl, (cc))
 ended_accepted n m (fault f) p = clash cc
 
-pub accepted : (l v : ℕ) (w : Walk) (n : ℕ) → answer l v w ≡ Accepted n
+pub accepted : (l v : ℕ) (w : Walk) (n : ℕ) → answer l v w ≡ Ok n
     → (length w.visits ≤ l - v) × (w.ending ≡ complete) × (v + length w.visits ≡ n)
 accepted l v w n p =
     ⊎_elim
@@ -121,16 +121,16 @@ accepted l v w n p =
     (λ le. let e = ended_accepted (v + length w.visits) n w.ending (sym (under l v w le) ∙ p) in (le, e.0, e.1))
     (lt_or_le (l - v) (length w.visits))
 
-pub answer_within : (l v : ℕ) (w : Walk) (n : ℕ) → v ≤ l → answer l v w ≡ Accepted n → n ≤ l
+pub answer_within : (l v : ℕ) (w : Walk) (n : ℕ) → v ≤ l → answer l v w ≡ Ok n → n ≤ l
 answer_within l v w n h p = let a = accepted l v w n p in omega (arith, a.0, a.2)
 
 -- a complete walk that fits the limit is accepted
-pub answer_fits : (l v : ℕ) (w : Walk) → w.ending ≡ complete → length w.visits ≤ l - v → answer l v w ≡ Accepted (v + length w.visits)
+pub answer_fits : (l v : ℕ) (w : Walk) → w.ending ≡ complete → length w.visits ≤ l - v → answer l v w ≡ Ok (v + length w.visits)
 answer_fits l v w e h = under l v w h ∙ ap (ended (v + length w.visits)) e
 
 -- what was accepted once is accepted again after other visits, at the same cost, while the limit leaves it
-pub answer_again : (l v : ℕ) (w : Walk) (m u : ℕ) → answer l v w ≡ Accepted m → u + (m - v) ≤ l → answer l u w ≡ Accepted (u + (m - v))
+pub answer_again : (l v : ℕ) (w : Walk) (m u : ℕ) → answer l v w ≡ Ok m → u + (m - v) ≤ l → answer l u w ≡ Ok (u + (m - v))
 answer_again l v w m u p h =
     let a = accepted l v w m p in
     let count : u + length w.visits ≡ u + (m - v) = omega (arith, a.2) in
-    answer_fits l u w a.1 (omega (arith, a.2)) ∙ ap Accepted count
+    answer_fits l u w a.1 (omega (arith, a.2)) ∙ ap Ok count

@@ -1,4 +1,5 @@
 -- What a block's visit meets, in the limited answer; and a block's references, one by one. Assumes nothing.
+use Rattle.std.specs.Prelude.{Err, None, Result, Some}
 use mathlib.Core.Path.{◌≡◌, sym, ap, ◌∙◌}
 use mathlib.Core.Bool.{true, false}
 use mathlib.Core.List.{List, [], ◌∷◌, ◌++◌}
@@ -10,17 +11,15 @@ use Rattle.blocks.specs.Block.{ref_count, block_at, few_links}
 use Rattle.blocks.specs.Place.{references}
 use Rattle.blocks.specs.View.{seen}
 use Rattle.blocks.specs.declared.Block.{Block}
-use Rattle.blocks.specs.declared.Parsed.{Parsed}
 use Rattle.blocks.specs.declared.view.View.{View}
-use Rattle.blocks.specs.declared.view.Seen.TheVariants.{Open, Cut}
 use Rattle.blocks.proofs.Looking.{seen_open, seen_cut, seen_refs}
 use Rattle.tree.specs.Walk.{Walk, Fault, few, short, deep, stopped, walk_links, unless_short, entered, classed, walk, fault_refusal, answer}
-use Rattle.tree.specs.declared.Checked.TheVariants.{Unsound}
 use Rattle.tree.proofs.Answers.{answer_stopped, answer_full, answer_visit}
+use Rattle.common.specs.declared.refusal.Refusal.{Refusal}
 
 -- ---- a block by what is seen of it
 -- the references of a block that is seen stand from byte 56 on
-seen_references : (img : List ℕ) (a : ℕ) (v : View) → seen img a ≡ Open v → references img (block_at img a) ≡ words img (a + 56) v.refs
+seen_references : (img : List ℕ) (a : ℕ) (v : View) → seen img a ≡ Some v → references img (block_at img a) ≡ words img (a + 56) v.refs
 unfolding references block_at ref_count
 seen_references img a v e = ap (words img (a + 56)) (sym (seen_refs img a v e))
 
@@ -30,38 +29,38 @@ module _ (img : List ℕ) (a : ℕ) (g : Block → Walk) where
   unfolding entered
   few_stops h = rw h
 
-  cut_stops : few_links img a ≡ false → seen img a ≡ Cut → entered img a g ≡ stopped (short a)
+  cut_stops : few_links img a ≡ false → seen img a ≡ None → entered img a g ≡ stopped (short a)
   unfolding entered
-  cut_stops h e = rw h (ap (λ (p : Parsed). unless_short a p g) (seen_cut img a e))
+  cut_stops h e = rw h (ap (λ (p : Result Block Refusal). unless_short a p g) (seen_cut img a e))
 
-  open_enters : (b : View) → few_links img a ≡ false → seen img a ≡ Open b → entered img a g ≡ g (block_at img a)
+  open_enters : (b : View) → few_links img a ≡ false → seen img a ≡ Some b → entered img a g ≡ g (block_at img a)
   unfolding entered
-  open_enters b h e = rw h (ap (λ (p : Parsed). unless_short a p g) (seen_open img a b e).whole)
+  open_enters b h e = rw h (ap (λ (p : Result Block Refusal). unless_short a p g) (seen_open img a b e).whole)
 
 -- ---- a visit
 module _ (img path : List ℕ) (a l v : ℕ) where
   abbrev inner : List ℕ
   inner = path ++ (a ∷ [])
 
-  pub walk_full : (d : ℕ) → v ≡ l → answer l v (walk d img path a) ≡ Unsound (Limit a)
+  pub walk_full : (d : ℕ) → v ≡ l → answer l v (walk d img path a) ≡ Err (Limit a)
   unfolding walk
   walk_full zero e = ap (λ (n : ℕ). answer l n (walk zero img path a)) e ∙ answer_full l a _
   walk_full (suc d) e = ap (λ (n : ℕ). answer l n (walk (suc d) img path a)) e ∙ answer_full l a _
 
   -- whatever is done with the block, it is stopped before
-  walk_stops : (f : Fault) (d : ℕ) → v < l → ((g : Block → Walk) → entered img a g ≡ stopped f) → answer l v (walk d img path a) ≡ Unsound (fault_refusal f)
+  walk_stops : (f : Fault) (d : ℕ) → v < l → ((g : Block → Walk) → entered img a g ≡ stopped f) → answer l v (walk d img path a) ≡ Err (fault_refusal f)
   unfolding walk
   walk_stops f zero h e = answer_visit l v a _ h ∙ ap (answer l (v + 1)) (e _) ∙ answer_stopped l (v + 1) f
   walk_stops f (suc d) h e = answer_visit l v a _ h ∙ ap (answer l (v + 1)) (e _) ∙ answer_stopped l (v + 1) f
 
-  pub walk_few : (d : ℕ) → v < l → few_links img a ≡ true → answer l v (walk d img path a) ≡ Unsound (FewLinks a)
+  pub walk_few : (d : ℕ) → v < l → few_links img a ≡ true → answer l v (walk d img path a) ≡ Err (FewLinks a)
   walk_few d h t = walk_stops (few a) d h (λ g. few_stops img a g t)
 
-  pub walk_short : (d : ℕ) → v < l → few_links img a ≡ false → seen img a ≡ Cut → answer l v (walk d img path a) ≡ Unsound (Short a)
+  pub walk_short : (d : ℕ) → v < l → few_links img a ≡ false → seen img a ≡ None → answer l v (walk d img path a) ≡ Err (Short a)
   walk_short d h t e = walk_stops (short a) d h (λ g. cut_stops img a g t e)
 
-  module _ (b : View) (h : v < l) (t : few_links img a ≡ false) (e : seen img a ≡ Open b) where
-    pub walk_deep : (d : ℕ) → d ≡ 0 → answer l v (walk d img path a) ≡ Unsound (Deep a)
+  module _ (b : View) (h : v < l) (t : few_links img a ≡ false) (e : seen img a ≡ Some b) where
+    pub walk_deep : (d : ℕ) → d ≡ 0 → answer l v (walk d img path a) ≡ Err (Deep a)
     unfolding walk
     walk_deep zero z = answer_visit l v a _ h ∙ ap (answer l (v + 1)) (open_enters img a _ b t e) ∙ answer_stopped l (v + 1) (deep a)
     walk_deep (suc d) z = absurd (omega arith)

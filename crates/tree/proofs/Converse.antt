@@ -1,5 +1,6 @@
 -- The converse of `acceptance` (demand 3): the check accepts exactly the trees that are sound and whose size is at most the limit, and refuses the
 -- others. A sound tree has no loop, and more levels change neither that it is sound nor its size; each of its blocks parses. Assumes nothing.
+use Rattle.std.specs.Prelude.{Err, Ok, Result}
 use mathlib.Core.Path.{◌≡◌, refl, sym, ap, subst, ◌∙◌}
 use mathlib.Core.Bool.{Bool, true, false, cond}
 use mathlib.Core.Logic.{◌↔◌, ⊎_elim}
@@ -18,15 +19,11 @@ use Rattle.common.proofs.Headers.{of_conversion}
 use Rattle.blocks.specs.Block.{block_at, opened, parsed_for_repair, few_links, parsed}
 use Rattle.blocks.specs.Place.{references}
 use Rattle.blocks.specs.declared.Block.{Block}
-use Rattle.blocks.specs.declared.Parsed.{Parsed}
-use Rattle.blocks.specs.declared.Parsed.TheVariants.{Whole}
 use Rattle.blocks.proofs.Opening.{read_parses}
 use Rattle.tree.specs.Walk.{Walk, End, complete, fault, onward, and_then, followed, walk_links, unless_short, entered, on, classed, walk, trace, ended, checked}
 use Rattle.tree.specs.Tree.{leads_in, sizes, size, Each, Sound}
 use Rattle.tree.specs.Follow.{Standing}
 use Rattle.tree.specs.declared.Link.TheVariants.{Nowhere, Back, Nested}
-use Rattle.tree.specs.declared.Checked.{Checked}
-use Rattle.tree.specs.declared.Checked.TheVariants.{Accepted, Unsound}
 use Rattle.tree.proofs.Answers.{lt_or_le}
 use Rattle.tree.proofs.Paths.{off_path, not_inside, not_conversion, nested_fits, nested_conversion, on_more, standing_none, standing_more}
 use Rattle.tree.proofs.Checks.{Rooted, limit_comes, ending_comes}
@@ -186,10 +183,10 @@ never true h = absurd (h refl)
 never false h = refl
 
 -- a block with its four links that is whole is entered
-sound_enters : (img : List ℕ) (a : ℕ) (g : Block → Walk) → 4 ≤ (block_at img a).links → opened img a ≡ Whole (block_at img a)
+sound_enters : (img : List ℕ) (a : ℕ) (g : Block → Walk) → 4 ≤ (block_at img a).links → opened img a ≡ Ok (block_at img a)
     → entered img a g ≡ g (block_at img a)
 unfolding entered few_links block_at
-sound_enters img a g h e = rw (le-ltb (word64 img (a + 16)) 4 h) (ap (λ (p : Parsed). unless_short a p g) e)
+sound_enters img a g h e = rw (le-ltb (word64 img (a + 16)) 4 h) (ap (λ (p : Result Block Refusal). unless_short a p g) e)
 
 -- the walk of a sound tree is complete, and begins as many visits as the tree has blocks
 pub sound_walk : (d : ℕ) (img path : List ℕ) (a : ℕ) → Standing img path → a + 24 ≤ length img → is_conversion img a ≡ true
@@ -225,47 +222,47 @@ module _ (img : List ℕ) (a l : ℕ) (fits : a + 24 ≤ length img) (is : is_co
   the_walk = sound_walk 21 img [] a (standing_none img) fits is (λ x e. clash cc) s
 
   -- a sound tree that fits the limit is accepted, with its size
-  pub accepted_when : size 21 img a ≤ l → checked img a l ≡ Accepted (size 21 img a)
+  pub accepted_when : size 21 img a ≤ l → checked img a l ≡ Ok (size 21 img a)
   accepted_when h =
       ending_comes img a l root (omega (arith, the_walk.1))
       ∙ ap (ended (length (trace img a).visits)) the_walk.0
-      ∙ ap Accepted the_walk.1
+      ∙ ap Ok the_walk.1
 
   -- and one that does not is refused at the visit that would be one too many
-  pub limited_when : l < size 21 img a → checked img a l ≡ Unsound (Limit (get_or (trace img a).visits l 0))
+  pub limited_when : l < size 21 img a → checked img a l ≡ Err (Limit (get_or (trace img a).visits l 0))
   limited_when h = limit_comes img a l root (omega (arith, the_walk.1))
 
   -- it is refused for nothing else: a tree that is refused for few links, a short block, its depth or a loop is not sound
-  pub only_limit : (x : Refusal) → checked img a l ≡ Unsound x → (l < size 21 img a) × (x ≡ Limit (get_or (trace img a).visits l 0))
+  pub only_limit : (x : Refusal) → checked img a l ≡ Err x → (l < size 21 img a) × (x ≡ Limit (get_or (trace img a).visits l 0))
   only_limit x e =
       ⊎_elim
-      (λ lt. let q : Unsound (Limit (get_or (trace img a).visits l 0)) ≡ Unsound x = sym (limited_when lt) ∙ e in (lt, (cc)))
-      (λ le. let q : Accepted (size 21 img a) ≡ Unsound x = sym (accepted_when le) ∙ e in clash cc)
+      (λ lt. let q : Err (Limit (get_or (trace img a).visits l 0)) ≡ Err x = sym (limited_when lt) ∙ e in (lt, (cc)))
+      (λ le. let q : Ok (size 21 img a) ≡ Err x = sym (accepted_when le) ∙ e in clash cc)
       (lt_or_le l (size 21 img a))
 
 -- the check accepts exactly the trees that are sound and whose size is at most the limit
 pub accepted_iff : (img : List ℕ) (a l n : ℕ)
-    → checked img a l ≡ Accepted n ↔ (a + 24 ≤ length img) × (is_conversion img a ≡ true) × Sound 21 img a × (n ≡ size 21 img a) × (n ≤ l)
+    → checked img a l ≡ Ok n ↔ (a + 24 ≤ length img) × (is_conversion img a ≡ true) × Sound 21 img a × (n ≡ size 21 img a) × (n ≤ l)
 accepted_iff img a l n = (
   λ e. let h = acceptance img a l n e in (h.header, h.conversion, h.sound, h.count, h.few),
-  λ h. accepted_when img a l h.0 h.1 h.2 (omega (arith, h.3, h.4)) ∙ ap Accepted (sym h.3),
+  λ h. accepted_when img a l h.0 h.1 h.2 (omega (arith, h.3, h.4)) ∙ ap Ok (sym h.3),
 )
 
 -- and refuses exactly the others
 pub refused_iff : (img : List ℕ) (a l : ℕ)
-    → ((x : Refusal) × (checked img a l ≡ Unsound x)) ↔ ¬ ((a + 24 ≤ length img) × (is_conversion img a ≡ true) × Sound 21 img a × (size 21 img a ≤ l))
+    → ((x : Refusal) × (checked img a l ≡ Err x)) ↔ ¬ ((a + 24 ≤ length img) × (is_conversion img a ≡ true) × Sound 21 img a × (size 21 img a ≤ l))
 refused_iff img a l = (
-  λ r h. let e : Accepted (size 21 img a) ≡ Unsound r.0 = sym (accepted_when img a l h.0 h.1 h.2 h.3) ∙ r.1 in clash cc,
+  λ r h. let e : Ok (size 21 img a) ≡ Err r.0 = sym (accepted_when img a l h.0 h.1 h.2 h.3) ∙ r.1 in clash cc,
   λ bad. go bad (checked img a l) refl,
 )
   where
-    go : ¬ ((a + 24 ≤ length img) × (is_conversion img a ≡ true) × Sound 21 img a × (size 21 img a ≤ l)) → (c : Checked) → checked img a l ≡ c
-        → (x : Refusal) × (c ≡ Unsound x)
-    go bad (Accepted n) e = let h = acceptance img a l n e in absurd (bad (h.header, h.conversion, h.sound, omega (arith, h.count, h.few)))
-    go bad (Unsound x) e = (x, refl)
+    go : ¬ ((a + 24 ≤ length img) × (is_conversion img a ≡ true) × Sound 21 img a × (size 21 img a ≤ l)) → (c : Result ℕ Refusal) → checked img a l ≡ c
+        → (x : Refusal) × (c ≡ Err x)
+    go bad (Ok n) e = let h = acceptance img a l n e in absurd (bad (h.header, h.conversion, h.sound, omega (arith, h.count, h.few)))
+    go bad (Err x) e = (x, refl)
 
 -- ---- 18 and 4 cannot follow an accepted check: parsing the root or any block below it gives its record
-sound_parses : (d : ℕ) (img : List ℕ) (a : ℕ) → inside img a ≡ true → is_conversion img a ≡ true → Sound d img a → parsed img a ≡ Whole (block_at img a)
+sound_parses : (d : ℕ) (img : List ℕ) (a : ℕ) → inside img a ≡ true → is_conversion img a ≡ true → Sound d img a → parsed img a ≡ Ok (block_at img a)
 unfolding Sound parsed_for_repair
 sound_parses zero img a h k s = absurd s
 sound_parses (suc d) img a h k s = read_parses img a (block_at img a) (of_conversion img a _ _ _ h k ∙ s.1) s.0
@@ -279,11 +276,11 @@ leads_there img r = go (eqb r 0) (inside img r) (is_conversion img r)
     go false true v p = (refl, p)
     go false false v p = clash cc
 
-pub root_parses : (img : List ℕ) (a l n : ℕ) → checked img a l ≡ Accepted n → parsed img a ≡ Whole (block_at img a)
+pub root_parses : (img : List ℕ) (a l n : ℕ) → checked img a l ≡ Ok n → parsed img a ≡ Ok (block_at img a)
 unfolding inside
 root_parses img a l n e = let k = acceptance img a l n e in sound_parses 21 img a (le-leb (a + 24) (length img) k.header) k.conversion k.sound
 
-pub below_parses : (img : List ℕ) (a l n x : ℕ) → checked img a l ≡ Accepted n → Below img a x → parsed img x ≡ Whole (block_at img x)
+pub below_parses : (img : List ℕ) (a l n x : ℕ) → checked img a l ≡ Ok n → Below img a x → parsed img x ≡ Ok (block_at img x)
 below_parses img a l n x e b =
     let there = leads_there img x (last_leads b) in
     sound_parses 21 img x there.0 there.1 (below_smaller 21 img a x (acceptance img a l n e).sound b).0

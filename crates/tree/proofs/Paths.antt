@@ -1,15 +1,16 @@
--- Laws of a path: the first n addresses of an array. Assumes nothing.
+-- Laws of a path. Assumes nothing.
 use mathlib.Core.Path.{◌≡◌, refl, sym, ap, subst, ◌∙◌}
-use mathlib.Core.Bool.{Bool, true, false, cond}
+use mathlib.Core.Bool.{Bool, true, false, ◌||◌, cond}
+use Rattle.std.specs.Prelude.{nat_eq}
+use Rattle.std.specs.List.{list_any}
 use mathlib.Core.Logic.{◌⊎◌, inl, inr, ⊎_elim}
 use mathlib.Core.List.{List, [], ◌∷◌, ◌++◌}
-use Prim.Native.Nat.{ℕ, ◌+◌, ◌≤◌, ◌<◌}
-use native.Mathlib.Numerals.{add-one}
+use Prim.Native.Nat.{ℕ, ◌+◌, ◌≤◌}
 use native.Mathlib.Omega.{arith}
-use borrow.Author.Tests.{eq-eqb, ne_eqb, eqb-true, le-leb}
+use borrow.Author.Tests.{eqb-true, le-leb}
 use lib.Dec.{eqb}
-use lib.ListN.{length, get_or, set, take, drop, drop_of_length-le}
-use lib.Seq.{drop-cons, get_or-take, length-take-le, take-take, take-set-le, take-suc-set}
+use lib.ListN.{length, take}
+use Rattle.std.proofs.lemmas.List.{take_at}
 use Rattle.words.proofs.Clash.{clash}
 use Rattle.common.specs.Header.{inside, is_conversion}
 use Rattle.common.proofs.Headers.{inside_fits}
@@ -17,37 +18,19 @@ use Rattle.tree.specs.Follow.{Standing}
 use Rattle.tree.specs.Walk.{on, classed}
 use Rattle.tree.specs.declared.Link.TheVariants.{Nowhere, Back, Nested}
 
--- what is left of a path from the i-th address on
-module _ (x : ℕ) (l : List ℕ) (n i : ℕ) (le : n ≤ length l) (lt : i < n) where
-  first : drop i (take n l) ≡ get_or l i 0 ∷ drop (i + 1) (take n l)
-  first =
-      let h : i < length (take n l) = rw length-take-le lt in
-      rw (add-one, drop-cons (take n l) i 0 h, get_or-take n l i 0 lt)
-
-  step : on x (drop i (take n l)) ≡ cond (eqb (get_or l i 0) x) true (on x (drop (i + 1) (take n l)))
-  unfolding on
-  step = ap (on x) first
-
-  pub on_past : (get_or l i 0 ≡ x → ⊥) → on x (drop i (take n l)) ≡ on x (drop (i + 1) (take n l))
-  on_past ne = step ∙ ap (λ (b : Bool). cond b true (on x (drop (i + 1) (take n l)))) (ne_eqb (get_or l i 0) x ne)
-
-  pub on_hit : get_or l i 0 ≡ x → on x (drop i (take n l)) ≡ true
-  on_hit e = step ∙ ap (λ (b : Bool). cond b true (on x (drop (i + 1) (take n l)))) (eq-eqb (get_or l i 0) x e)
-
-pub on_none : (x : ℕ) (l : List ℕ) (n i : ℕ) → n ≤ length l → n ≤ i → on x (drop i (take n l)) ≡ false
+-- the library's search finds an address on a path exactly if it is on it
+pub on_any : (x : ℕ) (l : List ℕ) → list_any (λ y. nat_eq y x) l ≡ on x l
 unfolding on
-on_none x l n i le ge =
-    let h : length (take n l) ≤ i = rw length-take-le ge in
-    rw drop_of_length-le
+on_any x [] = refl
+on_any x (y ∷ ys) = go (eqb y x) (on_any x ys)
+  where
+    go : (b : Bool) → list_any (λ z. nat_eq z x) ys ≡ on x ys → (b || list_any (λ z. nat_eq z x) ys) ≡ cond b true (on x ys)
+    go true e = refl
+    go false e = e
 
--- a block writes its own place, behind the path
-pub written : (l : List ℕ) (d a : ℕ) → d < length l → take (d + 1) (set l d a) ≡ take d l ++ (a ∷ [])
-written l d a h = rw (add-one, take-suc-set l d a h)
-
--- and what keeps the path with its place keeps the path
-pub kept : (p l : List ℕ) (d a : ℕ) → take (d + 1) p ≡ take (d + 1) (set l d a) → take d p ≡ take d l
-kept p l d a e =
-    sym (take-take d (d + 1) p (omega arith)) ∙ ap (take d) e ∙ take-take d (d + 1) (set l d a) (omega arith) ∙ take-set-le d l d a (omega arith)
+-- what keeps the path with a block's own address keeps the path
+pub kept : (outer own : List ℕ) (d a : ℕ) → length outer ≡ d → own ≡ outer ++ (a ∷ []) → take d own ≡ outer
+kept outer own d a len e = ap (take d) e ∙ take_at outer (a ∷ []) d len
 
 -- a reference to a nested block leads to a header in the image
 pub nested_fits : (img path : List ℕ) (r : ℕ) → classed img path r ≡ Nested → r + 24 ≤ length img

@@ -1,4 +1,5 @@
 pub mod Walk
 pub mod Tree
 pub mod Images
+pub mod Path
 pub mod Follow

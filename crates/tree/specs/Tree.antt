@@ -1,10 +1,9 @@
 -- The unfolded conversion tree, with no path and no limit: how many blocks it has, repeats included, and that each is whole and has the four fixed
 -- links (demand 3; request [11]). Assumes nothing: these are definitions.
-use Rattle.std.specs.Prelude.{◌≡◌, Bool, true, false, cond, ℕ, zero, suc, ◌+◌, ◌≤◌, List, [], ◌∷◌, eqb}
+use Rattle.std.specs.Prelude.{◌≡◌, Bool, true, false, cond, ℕ, zero, suc, ◌+◌, ◌≤◌, List, [], ◌∷◌, eqb, Ok}
 use Rattle.common.specs.Header.{inside, is_conversion}
 use Rattle.blocks.specs.Block.{opened, block_at}
 use Rattle.blocks.specs.Place.{references}
-use Rattle.blocks.specs.declared.Parsed.TheVariants.{Whole}
 
 -- the reference r leads to a block of the tree
 unfoldable pub leads_in : List ℕ → ℕ → Bool
@@ -30,5 +29,5 @@ unfoldable pub Sound : ℕ → List ℕ → ℕ → Type 0
 Sound zero img a = ⊥
 Sound (suc d) img a =
     (4 ≤ (block_at img a).links)
-    × (opened img a ≡ Whole (block_at img a))
+    × (opened img a ≡ Ok (block_at img a))
     × Each (Sound d img) (leads_in img) (references img (block_at img a))

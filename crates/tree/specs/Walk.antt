@@ -1,18 +1,14 @@
 -- The walk of a conversion tree (document 01, "The check"): what an unlimited walk begins and how it ends, and what a limited one answers.
 -- Assumes nothing: these are definitions.
-use Rattle.std.specs.Prelude.{ℕ, zero, suc, ◌+◌, ◌-◌, Bool, true, false, cond, List, [], ◌∷◌, ◌++◌, eqb, ltb, length, get_or}
+use Rattle.std.specs.Prelude.{ℕ, zero, suc, ◌+◌, ◌-◌, Bool, true, false, cond, List, [], ◌∷◌, ◌++◌, eqb, ltb, length, get_or, Err, Ok, Result}
 use Rattle.common.specs.Header.{inside, is_conversion}
 use Rattle.common.specs.declared.refusal.Refusal.{Refusal}
 use Rattle.common.specs.declared.refusal.Refusal.TheVariants.{Outside, NotConversion, Limit, Short, Deep, Loop, FewLinks}
 use Rattle.blocks.specs.Block.{opened, few_links}
 use Rattle.blocks.specs.Place.{references}
 use Rattle.blocks.specs.declared.Block.{Block}
-use Rattle.blocks.specs.declared.Parsed.{Parsed}
-use Rattle.blocks.specs.declared.Parsed.TheVariants.{Whole, Refused}
 use Rattle.tree.specs.declared.Link.{Link}
 use Rattle.tree.specs.declared.Link.TheVariants.{Nowhere, Back, Nested}
-use Rattle.tree.specs.declared.Checked.{Checked}
-use Rattle.tree.specs.declared.Checked.TheVariants.{Accepted, Unsound}
 
 -- ---- the trace of an unlimited walk
 -- the faults that a walk can meet: 18, 4, 5 and 6
@@ -77,9 +73,9 @@ unless_few a true w = stopped (few a)
 unless_few a false w = w
 
 -- a short block stops the walk
-abbrev pub unless_short : ℕ → Parsed → (Block → Walk) → Walk
-unless_short a (Whole b) g = g b
-unless_short a (Refused r) g = stopped (short a)
+abbrev pub unless_short : ℕ → Result Block Refusal → (Block → Walk) → Walk
+unless_short a (Ok b) g = g b
+unless_short a (Err r) g = stopped (short a)
 
 -- the block at a is entered: 18 if it has under four links, then 4 if it is short, else what is done with it
 unfoldable pub entered : List ℕ → ℕ → (Block → Walk) → Walk
@@ -104,20 +100,20 @@ fault_refusal (deep a) = Deep a
 fault_refusal (loop a) = Loop a
 
 -- an accepted walk answers its count
-abbrev pub ended : ℕ → End → Checked
-ended n complete = Accepted n
-ended n (fault f) = Unsound (fault_refusal f)
+abbrev pub ended : ℕ → End → Result ℕ Refusal
+ended n complete = Ok n
+ended n (fault f) = Err (fault_refusal f)
 
 -- after v visits, with the limit l: 3 at the visit that would be one too many, if the walk begins so many, else its own ending
-unfoldable pub answer : ℕ → ℕ → Walk → Checked
+unfoldable pub answer : ℕ → ℕ → Walk → Result ℕ Refusal
 answer l v w =
     cond (ltb (l - v) (length w.visits))
-    (Unsound (Limit (get_or w.visits (l - v) 0)))
+    (Err (Limit (get_or w.visits (l - v) 0)))
     (ended (v + length w.visits) w.ending)
 
 -- root first: 1, 2, then the walk
-unfoldable pub checked : List ℕ → ℕ → ℕ → Checked
+unfoldable pub checked : List ℕ → ℕ → ℕ → Result ℕ Refusal
 checked img a l =
     cond (inside img a)
-    (cond (is_conversion img a) (answer l 0 (trace img a)) (Unsound (NotConversion a)))
-    (Unsound (Outside a))
+    (cond (is_conversion img a) (answer l 0 (trace img a)) (Err (NotConversion a)))
+    (Err (Outside a))

@@ -1,13 +1,14 @@
 -- Laws of `put`, and of reading numbers where they were put. Assumes nothing.
 use mathlib.Core.Path.{◌≡◌, refl, sym, ap, ◌∙◌}
-use mathlib.Core.List.{List, [], ◌∷◌, ◌++◌, map}
+use mathlib.Core.List.{List, [], ◌∷◌, ◌++◌, map, append_assoc}
 use Prim.Native.Nat.{ℕ, zero, suc, ◌+◌, ◌*◌, ◌/◌, ◌%◌, ◌^◌, ◌≤◌, ◌<◌}
 use native.Mathlib.Nat.{add-zero, add_assoc}
 use native.Mathlib.Numerals.{add-one}
 use native.Mathlib.Omega.{arith}
-use lib.ListN.{length, get_or, drop, set, length-set, drop_of_length-le, length-replicate, replicate-append-replicate}
-use lib.Seq.{sets, sets-eq, get_or-append-add, drop-cons}
-use lib.Ieee.{Float, binary64, to_bits}
+use lib.ListN.{length, get_or, take, drop, set, length-set, length-map, length-take, length-drop, length-replicate, replicate-append-replicate}
+use lib.Seq.{sets, sets-eq, get_or-append-add, drop-drop}
+use borrow.Rule.Slice.PartMut.{put_mid}
+use Rattle.std.proofs.lemmas.List.{take_more, map-append}
 use Rattle.words.specs.Words.{word16, word32, word64, words, bytes2, bytes4, bytes8, put, links, zeros}
 
 -- ---- put
@@ -41,6 +42,16 @@ put_sets : (bs out : List ℕ) (at : ℕ) → put out at bs ≡ sets out at bs
 unfolding put
 put_sets [] out at = refl
 put_sets (b ∷ bs) out at = put_sets bs (set out at b) (at + 1) ∙ ap (λ (k : ℕ). sets (set out at b) k bs) (add-one at)
+
+-- a part that was copied over
+pub put_copied : (a k : ℕ) (out bs ys : List ℕ) → ys ≡ bs → length ys ≡ length (take k (drop a out)) → a + k ≤ length out → put_mid a k out ys ≡ put out a bs
+put_copied a k out bs ys e l h =
+    let size : length bs ≡ k = omega (arith, ap length e, l, length-take k (drop a out), length-drop a out) in
+    ap (λ (zs : List ℕ). put_mid a k out zs) e
+    ∙ ap (λ (zs : List ℕ). take a out ++ (bs ++ zs)) (drop-drop k a out)
+    ∙ sym (append_assoc (take a out) bs (drop (a + k) out))
+    ∙ ap (λ (n : ℕ). take a out ++ bs ++ drop (a + n) out) (sym size)
+    ∙ sym (put_sets bs out a ∙ sets-eq bs out a (omega (arith, size, h)))
 
 -- a zero that stands there
 pub set_zero : (out : List ℕ) (i : ℕ) → get_or out i 0 ≡ 0 → set out i 0 ≡ out
@@ -129,36 +140,25 @@ words_links (v ∷ vs) ys h =
     let rest : words (bytes8 v ++ (links vs ++ ys)) 8 (length vs) ≡ vs = words_behind (bytes8 v) (links vs ++ ys) 0 (length vs) ∙ words_links vs ys h.1 in
     ap (λ (w : ℕ). w ∷ words (bytes8 v ++ (links vs ++ ys)) 8 (length vs)) (word64_bytes v (links vs ++ ys) h.0) ∙ ap (λ (l : List ℕ). v ∷ l) rest
 
--- ---- a loop that writes numbers: i of them are out, the next goes to p, and what is still to be put makes the whole
-pub record Putting (out₀ : List ℕ) (at : ℕ) (vs : List ℕ) (i : ℕ) (out : List ℕ) (p : ℕ) : Type 0 where
-  pub within : i ≤ length vs
-  pub place : p ≡ at + 8 * i
-  pub long : length out ≡ length out₀
-  pub rest : put out₀ at (links vs) ≡ put out p (links (drop i vs))
-
-pub putting_none : (out : List ℕ) (at : ℕ) (vs : List ℕ) → Putting out at vs 0 out at
-putting_none out at vs = record { within = omega arith; place = omega arith; long = refl; rest = refl }
-
-pub putting_more : {out₀ : List ℕ} {at : ℕ} {vs : List ℕ} {i : ℕ} {out : List ℕ} {p : ℕ} {next : List ℕ} → Putting out₀ at vs i out p
-    → i < length vs → next ≡ put out p (bytes8 (get_or vs i 0)) → Putting out₀ at vs (i + 1) next (p + 8)
+-- ---- numbers written one behind the other
+links_append : (vs ws : List ℕ) → links (vs ++ ws) ≡ links vs ++ links ws
 unfolding links
-putting_more {out₀} {at} {vs} {i} {out} {p} {next} h less e =
-    let step : put out p (links (drop i vs)) ≡ put (put out p (bytes8 (get_or vs i 0))) (p + 8) (links (drop (i + 1) vs)) =
-    rw (add-one, drop-cons vs i 0) (put_append (bytes8 (get_or vs i 0)) (links (drop (suc i) vs)) out p) in
-    record {
-      within = omega arith;
-      place = omega arith;
-      long = ap length e ∙ put_length (bytes8 (get_or vs i 0)) out p ∙ h.long;
-      rest = h.rest ∙ step ∙ ap (λ (l : List ℕ). put l (p + 8) (links (drop (i + 1) vs))) (sym e);
-    }
+links_append [] ws = refl
+links_append (v ∷ vs) ws = ap (λ (l : List ℕ). bytes8 v ++ l) (links_append vs ws) ∙ sym (append_assoc (bytes8 v) (links vs) (links ws))
 
-pub putting_done : {out₀ : List ℕ} {at : ℕ} {vs : List ℕ} {i : ℕ} {out : List ℕ} {p : ℕ} → Putting out₀ at vs i out p → length vs ≤ i
-    → out ≡ put out₀ at (links vs)
-unfolding links put
-putting_done {vs = vs} h all = sym (h.rest ∙ rw (drop_of_length-le vs all))
+-- one number more
+pub put_one_more : (vs : List ℕ) (v : ℕ) (out : List ℕ) (at : ℕ) → put (put out at (links vs)) (at + 8 * length vs) (bytes8 v) ≡ put out at (links (vs ++ v ∷ []))
+unfolding links
+put_one_more vs v out at =
+    ap (λ (n : ℕ). put (put out at (links vs)) (at + n) (bytes8 v)) (sym (length_links vs)) ∙ sym (put_append (links vs) (bytes8 v) out at)
+    ∙ ap (put out at) (sym (links_append vs (v ∷ [])))
 
--- the bits of the i-th float are the i-th of the floats' bits
-pub bits_at : (xs : List Float) (i : ℕ) (d : Float) → i < length xs → get_or (map (to_bits binary64) xs) i 0 ≡ to_bits binary64 (get_or xs i d)
-bits_at [] i d h = absurd (omega arith)
-bits_at (x ∷ xs) zero d h = refl
-bits_at (x ∷ xs) (suc i) d h = bits_at xs i d (omega arith)
+-- the same, where the numbers are what f makes of the elements of a list, and the next element is v
+pub put_next : {A : Type 0} (f : A → ℕ) (vs : List A) (i : ℕ) (v : A) (out : List ℕ) (at : ℕ) → i < length vs → v ≡ get_or vs i v
+    → put (put out at (links (map f (take i vs)))) (at + 8 * i) (bytes8 (f v)) ≡ put out at (links (map f (take (i + 1) vs)))
+put_next {A = A} f vs i v out at h e =
+    let size : length (map f (take i vs)) ≡ i = simp (length-map, length-take) (omega (arith, h)) in
+    let more : map f (take (i + 1) vs) ≡ map f (take i vs) ++ f v ∷ [] =
+    ap (map f) (take_more vs i v h) ∙ map-append f (take i vs) (get_or vs i v ∷ []) ∙ ap (λ (w : A). map f (take i vs) ++ f w ∷ []) (sym e) in
+    ap (λ (n : ℕ). put (put out at (links (map f (take i vs)))) (at + 8 * n) (bytes8 (f v))) (sym size) ∙ put_one_more (map f (take i vs)) (f v) out at
+    ∙ ap (λ (l : List ℕ). put out at (links l)) (sym more)

@@ -1,3 +1,4 @@
 pub mod Laws
+pub mod LittleEndian
 pub mod Slices
 pub mod Clash

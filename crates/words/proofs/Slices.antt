@@ -54,6 +54,14 @@ unfolding words
 length_words s at zero = refl
 length_words s at (suc n) = ap suc (length_words s (at + 8) n)
 
+-- one number more
+pub words_last : (s : List ℕ) (at n : ℕ) → words s at (suc n) ≡ words s at n ++ word64 s (at + 8 * n) ∷ []
+unfolding words
+words_last s at zero = let e : at ≡ at + 8 * 0 = omega arith in ap (λ (p : ℕ). word64 s p ∷ []) e
+words_last s at (suc n) =
+    let e : at + 8 + 8 * n ≡ at + 8 * suc n = omega arith in
+    ap (λ (ws : List ℕ). word64 s at ∷ ws) (words_last s (at + 8) n ∙ ap (λ (p : ℕ). words s (at + 8) n ++ (word64 s p ∷ [])) e)
+
 module _ (s : List ℕ) (h : Bytes s) where
   -- ---- each number has its width
   pub word16_small : (at : ℕ) → word16 s at < 65536

@@ -1,127 +1,119 @@
-// Little-endian numbers in bytes: read at a place, read by a cursor that moves, and written at a place.
+// Little-endian numbers in bytes: read at a place, read by a cursor, and written at a place.
 // Carries over `read_link`, `read_u64` and the `LittleEndian` calls of base.rs and common.rs.
 //
 // These are inner functions: each asks that its place lies in the bytes, and whoever calls it has shown that.
-// A number is joined from its two halves, which the compiler turns into one load.
+// The compiler turns the bytes of a number into one load or one store. For each size there is a function of one line: one generic function for all sizes
+// would need a trait with an `impl` for each, and calls that name the type.
 
 #![tactic(auto)]
 
-ghost use Rattle.std.specs.Prelude.{◌≡◌, [], ◌∷◌, map, ◌+◌, ◌*◌, ◌≤◌, ◌<◌, length, get_or, set};
+ghost use Rattle.std.specs.Prelude.{◌≡◌, ℕ, [], ◌∷◌, map, take, drop, ◌+◌, ◌*◌, ◌≤◌, ◌<◌, ◌^◌, length, get_or};
 ghost use Rattle.std.specs.Float.{binary64};
 ghost use Rattle.std.specs.Float.Ieee.{to_bits};
 ghost use Rattle.words.specs.Words.{word16, word32, word64, value_at, bytes2, bytes4, bytes8, put, links, zeros};
 
-fn wide(b: u8) -> u16
-    ensures { (result ≡ b) × (result < 256) }
-{
-    b as u16
-}
-
+// Each byte is named: so the compiler makes one load of them with no test, where a part of so many bytes would be tested for its length (in a check of 127
+// blocks that was 200 million instructions in place of 167).
 pub fn u16_at(s: &[u8], at: usize) -> u16
     requires { at + 2 ≤ length s.now }
     ensures { result ≡ word16 s.now at }
 {
-    wide(s[at]) + wide(s[at + 1]) * 256
+    u16::from_le_bytes([s[at], s[at + 1]])
 }
 
 pub fn u32_at(s: &[u8], at: usize) -> u32
     requires { at + 4 ≤ length s.now }
     ensures { result ≡ word32 s.now at }
 {
-    (u16_at(s, at) as u32) + (u16_at(s, at + 2) as u32) * 65536
+    u32::from_le_bytes([s[at], s[at + 1], s[at + 2], s[at + 3]])
 }
 
 pub fn u64_at(s: &[u8], at: usize) -> u64
     requires { at + 8 ≤ length s.now }
     ensures { result ≡ word64 s.now at }
 {
-    (u32_at(s, at) as u64) + (u32_at(s, at + 4) as u64) * 4294967296
+    u64::from_le_bytes([
+        s[at],
+        s[at + 1],
+        s[at + 2],
+        s[at + 3],
+        s[at + 4],
+        s[at + 5],
+        s[at + 6],
+        s[at + 7],
+    ])
 }
 
-// A place in the bytes. A method reads what stands there and hands back the place behind it.
+// Bytes and a place in them. A method reads what stands there, and hands back the cursor with it, moved behind what was read: docs/RULES.md has this form.
 #[derive(Clone, Copy)]
-pub struct Cursor {
+pub struct Cursor<'a> {
+    pub bytes: &'a [u8],
     pub at: usize,
 }
 
-#[derive(Clone, Copy)]
-pub struct ByteRead {
-    pub value: u8,
-    pub next: Cursor,
+impl<'a> Cursor<'a> {
+    pub fn new(bytes: &'a [u8], at: usize) -> Self
+        ensures bytes { result.bytes.now ≡ bytes.now }
+        ensures place { result.at ≡ at }
+    {
+        Cursor { bytes, at }
+    }
+
+    // The cursor so many bytes further on.
+    fn moved(self, by: usize) -> Self
+        requires { self.at + by < 2 ^ 64 }
+        ensures bytes { result.bytes.now ≡ self.entry.bytes.now }
+        ensures place { result.at ≡ self.entry.at + by }
+    {
+        Cursor::new(self.bytes, self.at + by)
+    }
+
+    pub fn read_u8(self) -> (u8, Self)
+        requires { self.at + 1 ≤ length self.bytes.now }
+        ensures value { result.0 ≡ get_or self.entry.bytes.now self.entry.at 0 }
+        ensures bytes { result.1.bytes.now ≡ self.entry.bytes.now }
+        ensures place { result.1.at ≡ self.entry.at + 1 }
+    {
+        (self.bytes[self.at], self.moved(1))
+    }
+
+    pub fn read_u16(self) -> (u16, Self)
+        requires { self.at + 2 ≤ length self.bytes.now }
+        ensures value { result.0 ≡ word16 self.entry.bytes.now self.entry.at }
+        ensures bytes { result.1.bytes.now ≡ self.entry.bytes.now }
+        ensures place { result.1.at ≡ self.entry.at + 2 }
+    {
+        (u16_at(self.bytes, self.at), self.moved(2))
+    }
+
+    pub fn read_link(self) -> (u64, Self)
+        requires { self.at + 8 ≤ length self.bytes.now }
+        ensures value { result.0 ≡ word64 self.entry.bytes.now self.entry.at }
+        ensures bytes { result.1.bytes.now ≡ self.entry.bytes.now }
+        ensures place { result.1.at ≡ self.entry.at + 8 }
+    {
+        (u64_at(self.bytes, self.at), self.moved(8))
+    }
+
+    // A float, and the 64 bits that spelled it: of a NaN the float does not tell them.
+    pub fn read_f64(self) -> (f64, u64, Self)
+        requires { self.at + 8 ≤ length self.bytes.now }
+        ensures value { result.0 ≡ value_at self.entry.bytes.now self.entry.at }
+        ensures word { result.1 ≡ word64 self.entry.bytes.now self.entry.at }
+        ensures bytes { result.2.bytes.now ≡ self.entry.bytes.now }
+        ensures place { result.2.at ≡ self.entry.at + 8 }
+    {
+        let (word, next) = self.read_link();
+        (floats::from_bits(word), word, next)
+    }
 }
 
-#[derive(Clone, Copy)]
-pub struct ShortRead {
-    pub value: u16,
-    pub next: Cursor,
-}
-
-#[derive(Clone, Copy)]
-pub struct LinkRead {
-    pub value: u64,
-    pub next: Cursor,
-}
-
-// A float with the 64 bits that spelled it: of a NaN the float does not tell them.
-#[derive(Clone, Copy)]
-pub struct FloatRead {
-    pub value: f64,
-    pub word: u64,
-    pub next: Cursor,
-}
-
-impl Cursor {
-    pub fn new(at: usize) -> Self
-        ensures { result.at ≡ at }
-    {
-        Cursor { at }
-    }
-
-    pub fn read_u8(self, s: &[u8]) -> ByteRead
-        requires { self.at + 1 ≤ length s.now }
-        ensures { (result.value ≡ get_or s.now self.at 0) × (result.next.at ≡ self.at + 1) }
-    {
-        let at = self.at;
-        ByteRead {
-            value: s[at],
-            next: Cursor { at: at + 1 },
-        }
-    }
-
-    pub fn read_u16(self, s: &[u8]) -> ShortRead
-        requires { self.at + 2 ≤ length s.now }
-        ensures { (result.value ≡ word16 s.now self.at) × (result.next.at ≡ self.at + 2) }
-    {
-        let at = self.at;
-        ShortRead {
-            value: u16_at(s, at),
-            next: Cursor { at: at + 2 },
-        }
-    }
-
-    pub fn read_link(self, s: &[u8]) -> LinkRead
-        requires { self.at + 8 ≤ length s.now }
-        ensures { (result.value ≡ word64 s.now self.at) × (result.next.at ≡ self.at + 8) }
-    {
-        let at = self.at;
-        LinkRead {
-            value: u64_at(s, at),
-            next: Cursor { at: at + 8 },
-        }
-    }
-
-    pub fn read_f64(self, s: &[u8]) -> FloatRead
-        requires { self.at + 8 ≤ length s.now }
-        ensures { (result.value ≡ value_at s.now self.at) × ((result.word ≡ word64 s.now self.at) × (result.next.at ≡ self.at + 8)) }
-    {
-        let at = self.at;
-        let word = u64_at(s, at);
-        FloatRead {
-            value: floats::from_bits(word),
-            word,
-            next: Cursor { at: at + 8 },
-        }
-    }
+// These bytes, from a place on.
+fn put_bytes<const N: usize>(out: &mut [u8], at: usize, bytes: [u8; N])
+    requires { at + N ≤ length out.old }
+    ensures { out.new ≡ put out.old at bytes.entry }
+{
+    out[at..at + N].copy_from_slice(&bytes);
 }
 
 pub fn put_u8(out: &mut [u8], at: usize, v: u8)
@@ -135,51 +127,54 @@ pub fn put_u16(out: &mut [u8], at: usize, v: u16)
     requires { at + 2 ≤ length out.old }
     ensures { out.new ≡ put out.old at (bytes2 v) }
 {
-    out[at] = (v % 256) as u8;
-    out[at + 1] = (v / 256 % 256) as u8;
+    put_bytes(out, at, v.to_le_bytes());
 }
 
 pub fn put_u32(out: &mut [u8], at: usize, v: u32)
     requires { at + 4 ≤ length out.old }
     ensures { out.new ≡ put out.old at (bytes4 v) }
 {
-    put_u16(out, at, (v % 65536) as u16);
-    put_u16(out, at + 2, (v / 65536) as u16);
+    put_bytes(out, at, v.to_le_bytes());
 }
 
 pub fn put_u64(out: &mut [u8], at: usize, v: u64)
     requires { at + 8 ≤ length out.old }
     ensures { out.new ≡ put out.old at (bytes8 v) }
 {
-    put_u32(out, at, (v % 4294967296) as u32);
-    put_u32(out, at + 4, (v / 4294967296) as u32);
+    put_bytes(out, at, v.to_le_bytes());
 }
 
-// Words one behind the other: links, or the values' 64 bits.
-pub fn put_links(out: &mut [u8], at: usize, vs: &[u64])
-    requires { at + 8 * length vs.now ≤ length out.old }
-    ensures { out.new ≡ put out.old at (links vs.now) }
-{
-    let mut i = 0;
-    let mut p = at;
-    while i < vs.len() {
-        put_u64(out, p, vs[i]);
-        i += 1;
-        p += 8;
+// What is written as 64 bits: a number as it is, and a float by its bits.
+pub trait Word: Copy {
+    ghost bits: { Self → ℕ };
+
+    fn bits(self) -> u64
+        ensures { result ≡ bits self };
+}
+
+impl Word for u64 {
+    ghost bits = { λ v. v };
+
+    fn bits(self) -> u64 {
+        self
     }
 }
 
-// Floats one behind the other, each by its bits.
-pub fn put_floats(out: &mut [u8], at: usize, vs: &[f64])
+impl Word for f64 {
+    ghost bits = { to_bits binary64 };
+
+    fn bits(self) -> u64 {
+        floats::to_bits(self)
+    }
+}
+
+// Words one behind the other, each by its 64 bits.
+pub fn put_words<W: Word>(out: &mut [u8], at: usize, vs: &[W])
     requires { at + 8 * length vs.now ≤ length out.old }
-    ensures { out.new ≡ put out.old at (links (map (to_bits binary64) vs.now)) }
+    ensures { out.new ≡ put out.old at (links (map W.bits vs.now)) }
 {
-    let mut i = 0;
-    let mut p = at;
-    while i < vs.len() {
-        put_u64(out, p, floats::to_bits(vs[i]));
-        i += 1;
-        p += 8;
+    for (i, v) in vs.iter().enumerate() {
+        put_u64(out, at + 8 * i, v.bits());
     }
 }
 
@@ -194,7 +189,7 @@ fn put_zero_word(out: &mut [u8], at: usize)
     }
 }
 
-// One zero byte, likewise.
+// One zero byte, likewise. One function for any size would compare arrays, byte for byte.
 fn put_zero(out: &mut [u8], at: usize)
     requires { at + 1 ≤ length out.old }
     ensures { out.new ≡ put out.old at (zeros 1) }
@@ -218,7 +213,8 @@ fn put_first_zeros(out: &mut [u8], at: usize, count: usize) -> usize
     }
 }
 
-// So many zero bytes.
+// So many zero bytes. A `for` over words and one over the bytes that are left are no plainer, and make 1,183 bytes of code of `mdf_write` where this makes
+// 1,040; `fill` would be that memset.
 pub fn put_zeros(out: &mut [u8], at: usize, count: usize)
     requires { at + count ≤ length out.old }
     ensures { out.new ≡ put out.old at (zeros count) }

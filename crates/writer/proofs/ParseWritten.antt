@@ -1,6 +1,7 @@
 -- Document 01: "Parsing what was written returns every field, counts and block length as written", also with other bytes before and behind,
 -- and the references and values read by place are those written. With the padding kept, reserved bytes and excess come back too; and why the writer
 -- refuses with 23: what it would write has a range for parsing, where the record has none. Assumes nothing.
+use Rattle.std.specs.Prelude.{Option, Some, None, is_some, Err, Ok, Result}
 use mathlib.Core.Path.{◌≡◌, refl, sym, ap, ◌∙◌}
 use mathlib.Core.Bool.{Bool, true, false}
 use mathlib.Core.List.{List, [], ◌++◌, append_assoc}
@@ -26,14 +27,13 @@ use Rattle.padding.specs.Kept.{read_end, excess_at, padded, keeping, parsed_in}
 use Rattle.common.proofs.Headers.{header_drop, header_bytes_lem}
 use Rattle.common.specs.Written.{output_holds, WriteCall, write_call}
 use Rattle.writer.specs.Write.{write_size, fixed_bytes, field_bytes, range_bytes, front_bytes, block_bytes, read_as_range, write_answer, writing}
-use Rattle.writer.specs.Stored.{stored_fields, stored_range, stored, stored_kept, Sized}
+use Rattle.writer.specs.Stored.{stored_fields, stored_range, stored, stored_kept, RangeFits, Sized}
 use Rattle.writer.proofs.Writing.{length_range, length_block, answer_fits}
 use Rattle.common.specs.declared.header.Header.{Header}
 use Rattle.blocks.specs.declared.Fields.{Fields}
+use Rattle.blocks.specs.declared.Range.{Range}
 use Rattle.blocks.specs.declared.Block.{Block}
-use Rattle.blocks.specs.declared.Parsed.TheVariants.{Whole}
-use Rattle.common.specs.declared.written.Written.{Written}
-use Rattle.common.specs.declared.written.Written.TheVariants.{Bytes}
+use Rattle.common.specs.declared.refusal.Refusal.{Refusal}
 
 -- ---- the parts of a block, read from what is left of the image from their place on
 fixed_drop : (s : List ℕ) (p : ℕ) → fixed_at (drop p s) 0 ≡ fixed_at s p
@@ -69,16 +69,16 @@ fields_bytes b values rest h small =
     let valcount : word16 all 6 ≡ values = word16_bytes values [] small in
     cc
 
-range_bytes_lem : (b : Block) (r : Bool) (rest : List ℕ) → Sized b → range_at (range_bytes b r ++ rest) 0 r ≡ stored_range b r
+range_bytes_lem : (range : Option Range) (rest : List ℕ) → RangeFits range → range_at (range_bytes range ++ rest) 0 (is_some range) ≡ stored_range range
 unfolding value_at word64 word32 word16
-range_bytes_lem b true rest h =
-    let all = range_bytes b true ++ rest in
-    let low = kept_bits b.minimum b.minword in
-    let high = kept_bits b.maximum b.maxword in
-    let lows : word64 all 0 ≡ low = word64_bytes low [] (kept_small b.minimum b.minword h.minimum h.minword) in
-    let highs : word64 all 8 ≡ high = word64_bytes high [] (kept_small b.maximum b.maxword h.maximum h.maxword) in
-    cc (kept_reads_back b.minimum b.minword h.minimum, kept_reads_back b.maximum b.maxword h.maximum)
-range_bytes_lem b false rest h = refl
+range_bytes_lem (Some r) rest h =
+    let all = range_bytes (Some r) ++ rest in
+    let low = kept_bits r.minimum r.minword in
+    let high = kept_bits r.maximum r.maxword in
+    let lows : word64 all 0 ≡ low = word64_bytes low [] (kept_small r.minimum r.minword h.minimum h.minword) in
+    let highs : word64 all 8 ≡ high = word64_bytes high [] (kept_small r.maximum r.maxword h.maximum h.maxword) in
+    cc (kept_reads_back r.minimum r.minword h.minimum, kept_reads_back r.maximum r.maxword h.maximum)
+range_bytes_lem None rest h = refl
 
 -- the range is found exactly where it was written, unless an excess is read as one
 range_found : (r : Bool) (refs values excess : ℕ) → read_as_range r excess ≡ false → has_range (write_size r refs values excess) (4 + refs) values ≡ r
@@ -111,7 +111,7 @@ module _ (front rest : List ℕ) (b : Block) (refs values : List ℕ) where
   n = length refs
 
   abbrev size : ℕ
-  size = write_size b.ranged n (length values) b.excess
+  size = write_size (is_some b.range) n (length values) b.excess
 
   -- what is left of the image from each part on
   abbrev from_zeros : List ℕ
@@ -121,7 +121,7 @@ module _ (front rest : List ℕ) (b : Block) (refs values : List ℕ) where
   from_values = links values ++ from_zeros
 
   abbrev from_range : List ℕ
-  from_range = range_bytes b b.ranged ++ from_values
+  from_range = range_bytes b.range ++ from_values
 
   abbrev from_fields : List ℕ
   from_fields = field_bytes b (length values) ++ from_range
@@ -151,10 +151,10 @@ module _ (front rest : List ℕ) (b : Block) (refs values : List ℕ) where
   unfolding field_bytes
   at_range = next image (field_bytes b (length values)) from_range (a + 56 + 8 * n) (a + 64 + 8 * n) at_fields (omega arith)
 
-  at_values : drop (a + 64 + 8 * n + range_size b.ranged) image ≡ from_values
+  at_values : drop (a + 64 + 8 * n + range_size (is_some b.range)) image ≡ from_values
   at_values =
-      next image (range_bytes b b.ranged) from_values (a + 64 + 8 * n) (a + 64 + 8 * n + range_size b.ranged) at_range
-      (omega (arith, length_range b b.ranged))
+      next image (range_bytes b.range) from_values (a + 64 + 8 * n) (a + 64 + 8 * n + range_size (is_some b.range)) at_range
+      (omega (arith, length_range b.range))
 
   long_enough : a + size ≤ length image
   long_enough = omega (arith, length-append front (block_bytes b refs values ++ rest), length-append (block_bytes b refs values) rest, length_block b refs values)
@@ -172,11 +172,11 @@ module _ (front rest : List ℕ) (b : Block) (refs values : List ℕ) where
       → value_word_of (front ++ (block_bytes b refs values ++ rest)) (stored (length front) b (length refs) (length values)) i ≡ word_at values i
   unfolding stored value_word_of write_size
   values_written h i =
-      let p = a + 64 + 8 * n + range_size b.ranged in
+      let p = a + 64 + 8 * n + range_size (is_some b.range) in
       by_place image p (length values) i (omega (arith, long_enough)) ∙ ap (λ (ws : List ℕ). word_at ws i) (listed image p values from_zeros at_values h)
 
   -- what parsing reads, in the order in which one place follows from another
-  module _ (sized : Sized b) (few : length values ≤ 65535) (fits : write_size b.ranged (length refs) (length values) b.excess < 2 ^ 64) where
+  module _ (sized : Sized b) (few : length values ≤ 65535) (fits : write_size (is_some b.range) (length refs) (length values) b.excess < 2 ^ 64) where
     header : header_at image a ≡ record { id = conversion_id; reserved = b.reserved; length = size; links = 4 + n }
     unfolding write_size
     header = cc (header_drop image a, at_header, header_bytes_lem conversion_id b.reserved size (4 + n) from_fixed (omega arith) sized.reserved fits (omega arith))
@@ -212,7 +212,7 @@ module _ (front rest : List ℕ) (b : Block) (refs values : List ℕ) where
     tested = cc (long, linked, counted)
 
     -- what lies whole in the image is parsed
-    whole : block_end image a ≤ length image → parsed image a ≡ Whole (block_at image a)
+    whole : block_end image a ≤ length image → parsed image a ≡ Ok (block_at image a)
     unfolding parsed parsed_for_repair retired few_links inside is_conversion opened header_at block_end values_place
     whole end =
         let first : inside image a ≡ true = le-leb (a + 24) (length image) (omega (arith, place)) in
@@ -221,24 +221,24 @@ module _ (front rest : List ℕ) (b : Block) (refs values : List ℕ) where
         rw (first, second, third, le-leb (block_end image a) (length image) end)
 
     -- ---- the excess is not read as a range
-    module _ (unread : read_as_range b.ranged b.excess ≡ false) where
-      found : is_ranged image a ≡ b.ranged
-      found = tested ∙ range_found b.ranged n (length values) b.excess unread
+    module _ (unread : read_as_range (is_some b.range) b.excess ≡ false) where
+      found : is_ranged image a ≡ is_some b.range
+      found = tested ∙ range_found (is_some b.range) n (length values) b.excess unread
 
-      range : range_at image (fields_place image a + 8) (is_ranged image a) ≡ stored_range b b.ranged
+      range : range_at image (fields_place image a + 8) (is_ranged image a) ≡ stored_range b.range
       range =
           let p : fields_place image a + 8 ≡ a + 64 + 8 * n = omega (arith, place) in
-          cc (found, range_drop image (a + 64 + 8 * n) b.ranged, at_range, range_bytes_lem b b.ranged from_values sized)
+          cc (found, range_drop image (a + 64 + 8 * n) (is_some b.range), at_range, range_bytes_lem b.range from_values sized.range)
 
-      behind : values_place image a ≡ a + 64 + 8 * n + range_size b.ranged
+      behind : values_place image a ≡ a + 64 + 8 * n + range_size (is_some b.range)
       unfolding values_place
       behind = rw found (omega (arith, place))
 
-      pub parse_written : parsed (front ++ (block_bytes b refs values ++ rest)) (length front) ≡ Whole (stored (length front) b (length refs) (length values))
+      pub parse_written : parsed (front ++ (block_bytes b refs values ++ rest)) (length front) ≡ Ok (stored (length front) b (length refs) (length values))
       unfolding block_end block_at stored write_size
       parse_written =
           let block : block_at image a ≡ stored a b n (length values) = cc (long, linked, fixed, fields, range, behind) in
-          whole (omega (arith, long_enough, behind, counted)) ∙ ap Whole block
+          whole (omega (arith, long_enough, behind, counted)) ∙ ap Ok block
 
       -- the excess that is counted in what was written is the record's
       excess_is : excess_at a (stored a b n (length values)) ≡ b.excess
@@ -250,7 +250,7 @@ module _ (front rest : List ℕ) (b : Block) (refs values : List ℕ) where
       end_is = omega arith
 
       pub kept_written : parsed_in true (front ++ (block_bytes b refs values ++ rest)) (length front)
-          ≡ Whole (stored_kept (length front) b (length refs) (length values))
+          ≡ Ok (stored_kept (length front) b (length refs) (length values))
       unfolding parsed_in padded stored_kept
       kept_written =
           let s = stored a b n (length values) in
@@ -259,42 +259,42 @@ module _ (front rest : List ℕ) (b : Block) (refs values : List ℕ) where
           ap (keeping true image a) parse_written ∙ rw (test, reserved, excess_is)
 
     -- ---- why 23: the bytes that the writer would make have a range for parsing, and the record has none
-    pub read_as_range_lem : read_as_range b.ranged b.excess ≡ true
-        → (b.ranged ≡ false) × (parsed (front ++ (block_bytes b refs values ++ rest)) (length front) ≡ Whole (block_at image a)) × ((block_at image a).ranged ≡ true)
+    pub read_as_range_lem : read_as_range (is_some b.range) b.excess ≡ true
+        → (is_some b.range ≡ false) × (parsed (front ++ (block_bytes b refs values ++ rest)) (length front) ≡ Ok (block_at image a)) × (is_some (block_at image a).range ≡ true)
     unfolding block_end values_place block_at write_size
     read_as_range_lem h =
-        let taken = range_taken b.ranged n (length values) b.excess h in
+        let taken = range_taken (is_some b.range) n (length values) b.excess h in
         let ranged : is_ranged image a ≡ true = tested ∙ taken.2 in
         let size_of : range_size (is_ranged image a) ≡ 16 = ap range_size ranged in
-        let plain : range_size b.ranged ≡ 0 = ap range_size taken.0 in (
+        let plain : range_size (is_some b.range) ≡ 0 = ap range_size taken.0 in (
           taken.0,
           whole (omega (arith, long_enough, place, counted, size_of, plain, taken.1)),
           rw ranged refl,
         )
 
 -- ---- the same, said of the writer's own answer: where it wrote, the output parses at 0, and reads by place as it was written
-answered : (b : Block) (refs values out : List ℕ) (k : ℕ) (img : List ℕ) → writing b refs values out ≡ write_call (Bytes k) img
-    → write_answer b.ranged (length refs) (length values) b.excess (length out) ≡ Bytes k
+answered : (b : Block) (refs values out : List ℕ) (k : ℕ) (img : List ℕ) → writing b refs values out ≡ write_call (Ok k) img
+    → write_answer (is_some b.range) (length refs) (length values) b.excess (length out) ≡ Ok k
 unfolding writing
 answered b refs values out k img e = ap (λ (o : WriteCall). o.result) e
 
-held : (b : Block) (refs values out : List ℕ) (k : ℕ) (img : List ℕ) → writing b refs values out ≡ write_call (Bytes k) img
+held : (b : Block) (refs values out : List ℕ) (k : ℕ) (img : List ℕ) → writing b refs values out ≡ write_call (Ok k) img
     → block_bytes b refs values ++ drop k out ≡ img
 unfolding writing
 held b refs values out k img e =
-    ap (λ (w : Written). output_holds w (block_bytes b refs values) out) (sym (answered b refs values out k img e)) ∙ ap (λ (o : WriteCall). o.output) e
+    ap (λ (w : Result ℕ Refusal). output_holds w (block_bytes b refs values) out) (sym (answered b refs values out k img e)) ∙ ap (λ (o : WriteCall). o.output) e
 
-module _ (b : Block) (refs values out : List ℕ) (k : ℕ) (img : List ℕ) (e : writing b refs values out ≡ write_call (Bytes k) img) where
-  pub output_parses : Sized b → write_size b.ranged (length refs) (length values) b.excess < 2 ^ 64
-      → parsed img 0 ≡ Whole (stored 0 b (length refs) (length values))
+module _ (b : Block) (refs values out : List ℕ) (k : ℕ) (img : List ℕ) (e : writing b refs values out ≡ write_call (Ok k) img) where
+  pub output_parses : Sized b → write_size (is_some b.range) (length refs) (length values) b.excess < 2 ^ 64
+      → parsed img 0 ≡ Ok (stored 0 b (length refs) (length values))
   output_parses sized fits =
-      let fit = answer_fits b.ranged (length refs) (length values) b.excess (length out) k (answered b refs values out k img e) in
+      let fit = answer_fits (is_some b.range) (length refs) (length values) b.excess (length out) k (answered b refs values out k img e) in
       rw (sym (held b refs values out k img e)) (parse_written [] (drop k out) b refs values sized fit.few fits fit.read_back)
 
-  pub output_kept : Sized b → write_size b.ranged (length refs) (length values) b.excess < 2 ^ 64
-      → parsed_in true img 0 ≡ Whole (stored_kept 0 b (length refs) (length values))
+  pub output_kept : Sized b → write_size (is_some b.range) (length refs) (length values) b.excess < 2 ^ 64
+      → parsed_in true img 0 ≡ Ok (stored_kept 0 b (length refs) (length values))
   output_kept sized fits =
-      let fit = answer_fits b.ranged (length refs) (length values) b.excess (length out) k (answered b refs values out k img e) in
+      let fit = answer_fits (is_some b.range) (length refs) (length values) b.excess (length out) k (answered b refs values out k img e) in
       rw (sym (held b refs values out k img e)) (kept_written [] (drop k out) b refs values sized fit.few fits fit.read_back)
 
   pub output_reads : Words64 refs → Words64 values → (i : ℕ)

@@ -2,6 +2,7 @@
 -- below the bytes read", where the padding is kept. That it has the four links, and that the excess lies in the image, is what parsing tests. Document
 -- 01's law is the case of no padding: "when reserved is zero, links >= 4 and block length equals the bytes read". Each part of the block is a part of the
 -- image, and the parts stand one behind the other. Assumes nothing.
+use Rattle.std.specs.Prelude.{is_some, Err, Ok, Result}
 use mathlib.Core.Path.{◌≡◌, refl, sym, ap, ◌∙◌}
 use mathlib.Core.Bool.{Bool, true, false}
 use mathlib.Core.List.{List, [], ◌∷◌, ◌++◌}
@@ -23,12 +24,9 @@ use Rattle.padding.specs.Kept.{read_end, parsed_in}
 use Rattle.padding.proofs.Keeping.{end_is, IsKept, kept_is, nothing_to_keep}
 use Rattle.common.specs.Written.{write_call}
 use Rattle.writer.specs.Write.{write_size, fixed_bytes, field_bytes, range_bytes, front_bytes, block_bytes, read_as_range, through_floats, writing}
-use Rattle.blocks.specs.declared.Range.{Range}
 use Rattle.blocks.specs.declared.Block.{Block}
-use Rattle.blocks.specs.declared.Parsed.TheVariants.{Whole}
-use Rattle.blocks.specs.Make.{range_of, with_padding}
+use Rattle.blocks.specs.Make.{with_padding}
 use Rattle.blocks.proofs.Opening.{parsed_is_read, parsed_whole}
-use Rattle.common.specs.declared.written.Written.TheVariants as written
 use Rattle.writer.proofs.Writing.{length_block, block_written}
 
 -- ---- xs are the bytes of s from one place up to another
@@ -47,7 +45,7 @@ both {s} {from} {mid} {to} first second =
     is_part s from to ((mid - from) + (to - mid)) (omega arith) (join s from (mid - from) (to - mid) first.same (cc))
 
 -- ---- whether a range that was read is there
-range_is : (s : List ℕ) (p : ℕ) (r : Bool) → (range_at s p r).ranged ≡ r
+range_is : (s : List ℕ) (p : ℕ) (r : Bool) → is_some (range_at s p r) ≡ r
 range_is s p true = refl
 range_is s p false = refl
 
@@ -67,19 +65,15 @@ module _ (s : List ℕ) (h : Bytes s) where
 
   -- ---- each part of a block
   -- for a float that was read, the word that was read is written, a NaN's too
-  kept : {x : Float} {w : ℕ} (at : ℕ) → x ≡ value_at s at → w ≡ word64 s at → kept_bits x w ≡ word64 s at
+  kept : (at : ℕ) → kept_bits (value_at s at) (word64 s at) ≡ word64 s at
   unfolding value_at
-  kept at e f = rw (e, f) (kept_of_read (word64 s at) (word64_small s h at))
+  kept at = kept_of_read (word64 s at) (word64_small s h at)
 
   -- a range that was read, or none
-  range_part : (b : Block) (r : Bool) (from to : ℕ) → range_of b ≡ range_at s from r → from + range_size r ≡ to → to ≤ length s
-      → IsPart s from to (range_bytes b b.ranged)
-  range_part b true from to e f fits =
-      let ranged : b.ranged ≡ true = ap (λ (x : Range). x.ranged) e in
-      let low = kept from (ap (λ (x : Range). x.minimum) e) (ap (λ (x : Range). x.minword) e) in
-      let high = kept (from + 8) (ap (λ (x : Range). x.maximum) e) (ap (λ (x : Range). x.maxword) e) in
-      rw ranged (both (eight _ from (from + 8) low refl (omega arith)) (eight _ (from + 8) to high (omega arith) fits))
-  range_part b false from to e f fits = let ranged : b.ranged ≡ false = ap (λ (x : Range). x.ranged) e in rw ranged (is_part s from to 0 f refl)
+  range_part : (r : Bool) (from to : ℕ) → from + range_size r ≡ to → to ≤ length s → IsPart s from to (range_bytes (range_at s from r))
+  range_part true from to f fits =
+      both (eight _ from (from + 8) (kept from) refl (omega arith)) (eight _ (from + 8) to (kept (from + 8)) (omega arith) fits)
+  range_part false from to f fits = is_part s from to 0 f refl
 
   -- the block at a with its padding, of which e bytes are excess
   module _ (a e : ℕ) (fits : block_end s a + e ≤ length s) where
@@ -123,11 +117,11 @@ module _ (s : List ℕ) (h : Bytes s) where
         → take e (drop (block_end s a) s) ≡ zeros e → IsPart s a (block_end s a + e) (block_bytes kept_block refs values)
     unfolding block_bytes front_bytes block_at write_size block_end values_place fields_place ref_count
     block_part id enough long none =
-        let range = range_part kept_block (is_ranged s a) (fields_place s a + 8) (values_place s a) refl refl (omega arith) in
+        let range = range_part (is_ranged s a) (fields_place s a + 8) (values_place s a) refl (omega arith) in
         let count : length values ≡ val_count s a = length_words s (values_place s a) (val_count s a) in
         let linked : 4 + length refs ≡ word64 s (a + 16) = omega (arith, length_words s (a + 56) (ref_count s a)) in
-        let ranged : range_size kept_block.ranged ≡ range_size (is_ranged s a) = ap range_size (range_is s (fields_place s a + 8) (is_ranged s a)) in
-        let size : write_size kept_block.ranged (length refs) (length values) e ≡ word64 s (a + 8) = omega arith in
+        let ranged : range_size (is_some kept_block.range) ≡ range_size (is_ranged s a) = ap range_size (range_is s (fields_place s a + 8) (is_ranged s a)) in
+        let size : write_size (is_some kept_block.range) (length refs) (length values) e ≡ word64 s (a + 8) = omega arith in
         both
         (both (both (both (both (both (header_part _ _ size linked id) fixed_part) refs_part) (fields_part _ count)) range)
         (many (val_count s a) (values_place s a) (block_end s a) refl (omega arith)))
@@ -135,7 +129,7 @@ module _ (s : List ℕ) (h : Bytes s) where
 
 -- what is left of a block without a range is no more than 15 bytes, since 16 would have been read as one: 23 never meets a block that was parsed
 unread_of : (img : List ℕ) (a : ℕ) (r : Bool) → is_ranged img a ≡ r → 4 ≤ word64 img (a + 16)
-    → read_as_range (range_at img (fields_place img a + 8) r).ranged ((a + word64 img (a + 8)) - block_end img a) ≡ false
+    → read_as_range (is_some (range_at img (fields_place img a + 8) r)) ((a + word64 img (a + 8)) - block_end img a) ≡ false
 unfolding is_ranged block_end values_place fields_place ref_count
 unread_of img a true t enough = refl
 unread_of img a false t enough =
@@ -143,7 +137,7 @@ unread_of img a false t enough =
     let none : range_size (is_ranged img a) ≡ 0 = ap range_size t in
     lt-leb 16 ((a + word64 img (a + 8)) - block_end img a) (omega arith)
 
-module _ (img : List ℕ) (a : ℕ) (b : Block) (kept : parsed_in true img a ≡ Whole b) where
+module _ (img : List ℕ) (a : ℕ) (b : Block) (kept : parsed_in true img a ≡ Ok b) where
   is_kept : IsKept img a b
   is_kept = kept_is img a b kept
 
@@ -151,12 +145,12 @@ module _ (img : List ℕ) (a : ℕ) (b : Block) (kept : parsed_in true img a ≡
   unfolding block_at
   enough_links = (parsed_is_read img a (block_at img a) is_kept.whole).1
 
-  pub kept_unread : read_as_range b.ranged b.excess ≡ false
+  pub kept_unread : read_as_range (is_some b.range) b.excess ≡ false
   unfolding block_at
   kept_unread =
-      let ranged : b.ranged ≡ (range_at img (fields_place img a + 8) (is_ranged img a)).ranged = ap (λ (x : Block). x.ranged) is_kept.same in
+      let ranged : is_some b.range ≡ is_some (range_at img (fields_place img a + 8) (is_ranged img a)) = ap (λ (x : Block). is_some x.range) is_kept.same in
       ap (λ (r : Bool). read_as_range r b.excess) ranged
-      ∙ ap (read_as_range (range_at img (fields_place img a + 8) (is_ranged img a)).ranged) is_kept.excess
+      ∙ ap (read_as_range (is_some (range_at img (fields_place img a + 8) (is_ranged img a)))) is_kept.excess
       ∙ unread_of img a (is_ranged img a) refl enough_links
 
   -- its length is not below the bytes read, and the excess bytes are zero
@@ -190,7 +184,7 @@ module _ (img : List ℕ) (a : ℕ) (b : Block) (kept : parsed_in true img a ≡
         let count : b.valcount < 65536 = rw is_kept.same (word16_small img h _) in
         omega (arith, length_words img b.firstval b.valcount)
 
-    size : write_size b.ranged (length (references img b)) (length (value_words img b)) b.excess ≡ b.length
+    size : write_size (is_some b.range) (length (references img b)) (length (value_words img b)) b.excess ≡ b.length
     size =
         sym (length_block b (references img b) (value_words img b)) ∙ ap length kept_bytes
         ∙ length-take-le b.length (drop a img) (omega (arith, length-drop a img, is_kept.fits, all_of_it, length_is))
@@ -198,15 +192,15 @@ module _ (img : List ℕ) (a : ℕ) (b : Block) (kept : parsed_in true img a ≡
     -- writing it with its references and values, into an output with room: the block's bytes as the image has them, and behind them what was there
     pub write_kept : (out : List ℕ) → b.length ≤ length out
         → writing b (references img b) (value_words img b) out
-        ≡ write_call (written.Bytes b.length) (take b.length (drop a img) ++ drop b.length out)
+        ≡ write_call (Ok b.length) (take b.length (drop a img) ++ drop b.length out)
     write_kept out room =
         block_written b (references img b) (value_words img b) out b.length few kept_unread size room
-        ∙ ap (λ (bs : List ℕ). write_call (written.Bytes b.length) (bs ++ drop b.length out)) kept_bytes
+        ∙ ap (λ (bs : List ℕ). write_call (Ok b.length) (bs ++ drop b.length out)) kept_bytes
 
 -- ---- document 01's law: a block b that was parsed plainly, its reserved bytes are zero, and its length is that of the bytes read
-module _ (img : List ℕ) (a : ℕ) (b : Block) (h : Bytes img) (whole : parsed img a ≡ Whole b) (none : word32 img (a + 4) ≡ 0)
+module _ (img : List ℕ) (a : ℕ) (b : Block) (h : Bytes img) (whole : parsed img a ≡ Ok b) (none : word32 img (a + 4) ≡ 0)
     (long : b.length + a ≡ block_end img a) where
-  keeps_nothing : parsed_in true img a ≡ Whole b
+  keeps_nothing : parsed_in true img a ≡ Ok b
   keeps_nothing = nothing_to_keep img a b whole none long
 
   no_excess : b.excess ≡ 0
@@ -224,7 +218,7 @@ module _ (img : List ℕ) (a : ℕ) (b : Block) (h : Bytes img) (whole : parsed 
 
   pub write_parsed : (out : List ℕ) → b.length ≤ length out
       → writing b (references img b) (value_words img b) out
-      ≡ write_call (written.Bytes b.length) (take b.length (drop a img) ++ drop b.length out)
+      ≡ write_call (Ok b.length) (take b.length (drop a img) ++ drop b.length out)
   write_parsed = write_kept img a b keeps_nothing h reaches no_zeros
 
 -- ---- values that are no NaN may pass through floats
@@ -246,9 +240,9 @@ write_floats img b refs out h plain =
     ap (λ (ws : List ℕ). writing b refs ws out) (float_form (value_words img b) (words_small img h b.firstval b.valcount) plain)
 
 -- so document 01's law holds for them too
-pub write_parsed_floats : (img : List ℕ) (a : ℕ) (b : Block) → Bytes img → parsed img a ≡ Whole b → word32 img (a + 4) ≡ 0
+pub write_parsed_floats : (img : List ℕ) (a : ℕ) (b : Block) → Bytes img → parsed img a ≡ Ok b → word32 img (a + 4) ≡ 0
     → b.length + a ≡ block_end img a → (out : List ℕ) → b.length ≤ length out → NoNan (value_words img b)
     → writing b (references img b) (through_floats (value_words img b)) out
-    ≡ write_call (written.Bytes b.length) (take b.length (drop a img) ++ drop b.length out)
+    ≡ write_call (Ok b.length) (take b.length (drop a img) ++ drop b.length out)
 write_parsed_floats img a b h whole none long out room plain =
     write_floats img b (references img b) out h plain ∙ write_parsed img a b h whole none long out room

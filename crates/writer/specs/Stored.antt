@@ -1,10 +1,10 @@
 -- The record that parsing gives for a written block (document 01, "Parsing what was written returns every field, counts and block length as written";
 -- with the padding kept, that too). Assumes nothing: these are definitions.
-use Rattle.std.specs.Prelude.{ℕ, ◌+◌, ◌*◌, ◌^◌, ◌<◌, Bool, true, false, T}
+use Rattle.std.specs.Prelude.{ℕ, Option, Some, None, is_some, ◌+◌, ◌*◌, ◌^◌, ◌<◌, Bool, true, false, T}
 use Rattle.std.specs.Float.{binary64}
 use Rattle.std.specs.Float.Ieee.{fits}
 use Rattle.floats.specs.Kept.{kept_bits}
-use Rattle.blocks.specs.Block.{range_size, no_range, record_from}
+use Rattle.blocks.specs.Block.{range_size, record_from}
 use Rattle.blocks.specs.Make.{fixed_of, with_padding}
 use Rattle.writer.specs.Write.{write_size}
 use Rattle.blocks.specs.declared.Fields.{Fields}
@@ -17,28 +17,27 @@ stored_fields b values =
     record { kind = b.kind; precision = b.precision; flags = b.flags; refcount = b.refcount; valcount = values }
 
 -- each float with the word that was written for it
-abbrev pub stored_range : Block → Bool → Range
-stored_range b true =
-    record {
-      ranged = true;
-      minimum = b.minimum;
-      maximum = b.maximum;
-      minword = kept_bits b.minimum b.minword;
-      maxword = kept_bits b.maximum b.maxword;
-    }
-stored_range b false = no_range
+abbrev pub stored_range : Option Range → Option Range
+stored_range (Some r) =
+    Some (record {
+      minimum = r.minimum;
+      maximum = r.maximum;
+      minword = kept_bits r.minimum r.minword;
+      maxword = kept_bits r.maximum r.maxword;
+    })
+stored_range None = None
 
 -- written at a with so many references and values, and parsed plainly; the padding counts in the block length
 unfoldable pub stored : ℕ → Block → ℕ → ℕ → Block
 stored a b refs values =
     record_from
-    (write_size b.ranged refs values b.excess)
+    (write_size (is_some b.range) refs values b.excess)
     (4 + refs)
     (fixed_of b)
     (stored_fields b values)
-    (stored_range b b.ranged)
+    (stored_range b.range)
     (a + 56)
-    (a + 64 + 8 * refs + range_size b.ranged)
+    (a + 64 + 8 * refs + range_size (is_some b.range))
     0
     0
 
@@ -47,6 +46,16 @@ unfoldable pub stored_kept : ℕ → Block → ℕ → ℕ → Block
 stored_kept a b refs values = with_padding (stored a b refs values) b.reserved b.excess
 
 -- each field has the size of its type
+pub record SizedRange (r : Range) : Type 0 where
+  pub minimum : T (fits binary64 r.minimum)
+  pub maximum : T (fits binary64 r.maximum)
+  pub minword : r.minword < 2 ^ 64
+  pub maxword : r.maxword < 2 ^ 64
+
+abbrev pub RangeFits : Option Range → Type 0
+RangeFits (Some r) = SizedRange r
+RangeFits None = Unit {0}
+
 pub record Sized (b : Block) : Type 0 where
   pub name : b.name < 2 ^ 64
   pub unit : b.unit < 2 ^ 64
@@ -56,8 +65,5 @@ pub record Sized (b : Block) : Type 0 where
   pub precision : b.precision < 256
   pub flags : b.flags < 65536
   pub refcount : b.refcount < 65536
-  pub minimum : T (fits binary64 b.minimum)
-  pub maximum : T (fits binary64 b.maximum)
-  pub minword : b.minword < 2 ^ 64
-  pub maxword : b.maxword < 2 ^ 64
+  pub range : RangeFits b.range
   pub reserved : b.reserved < 2 ^ 32

@@ -5,7 +5,7 @@
 
 #![tactic(auto)]
 
-ghost use Rattle.std.specs.Prelude.{◌≡◌, map, ◌+◌, ◌*◌, ◌≤◌, ◌<◌};
+ghost use Rattle.std.specs.Prelude.{◌≡◌, is_some, map, ◌+◌, ◌*◌, ◌≤◌, ◌<◌};
 ghost use Rattle.std.proofs.Math.ListN as ListN;
 ghost use Rattle.std.specs.Float.{binary64};
 ghost use Rattle.std.specs.Float.Ieee.{to_bits};
@@ -14,10 +14,10 @@ ghost use Rattle.blocks.specs.Block.{range_size};
 ghost use Rattle.common.specs.Written.{write_call};
 ghost use Rattle.writer.specs.Write.{read_as_range, write_answer, fixed_bytes, field_bytes, range_bytes, front_bytes, writing};
 
-use blocks::{Block, range_size};
-use common::header::{Header, put_header};
+use blocks::{Block, Range, range_size};
+use common::header::Header;
 use common::refusal::Refusal;
-use common::written::Written;
+use words::Word;
 
 // The most values that a block can count.
 const VALUES: usize = 65535;
@@ -48,105 +48,105 @@ pub fn put_fields(block: Block, out: &mut [u8], at: usize, values: u16)
     words::put_u16(out, at + 6, values);
 }
 
-fn put_range(block: Block, out: &mut [u8], at: usize)
-    requires { at + range_size block.ranged ≤ ListN.length out.old }
-    ensures { out.new ≡ put out.old at (range_bytes block block.ranged) }
+fn put_range(range: Option<Range>, out: &mut [u8], at: usize)
+    requires { at + range_size (is_some range) ≤ ListN.length out.old }
+    ensures { out.new ≡ put out.old at (range_bytes range) }
 {
-    if block.ranged {
-        words::put_u64(out, at, floats::kept_bits(block.minimum, block.minword));
-        words::put_u64(out, at + 8, floats::kept_bits(block.maximum, block.maxword));
+    if let Some(range) = range {
+        words::put_u64(out, at, floats::kept_bits(range.minimum, range.minword));
+        words::put_u64(out, at + 8, floats::kept_bits(range.maximum, range.maxword));
     }
 }
 
 // All before the values, and the place where those go.
 fn put_front(block: Block, out: &mut [u8], refs: &[u64], values: u16, length: u64) -> usize
-    requires { 64 + 8 * ListN.length refs.now + range_size block.ranged ≤ ListN.length out.old }
-    ensures { (result ≡ 64 + 8 * ListN.length refs.now + range_size block.ranged) × (out.new ≡ put out.old 0 (front_bytes block refs.now values length)) }
+    requires { 64 + 8 * ListN.length refs.now + range_size (is_some block.range) ≤ ListN.length out.old }
+    ensures { (result ≡ 64 + 8 * ListN.length refs.now + range_size (is_some block.range)) × (out.new ≡ put out.old 0 (front_bytes block refs.now values length)) }
 {
     let place = 56 + 8 * refs.len();
-    put_header(
-        out,
-        Header::CONVERSION,
-        block.reserved,
+    let header = Header {
+        id: Header::CONVERSION,
+        reserved: block.reserved,
         length,
-        Block::FIXED + (refs.len() as u64),
-    );
+        links: Block::FIXED + (refs.len() as u64),
+    };
+    header.put(out);
     put_fixed(block, out);
-    words::put_links(out, 56, refs);
+    words::put_words(out, 56, refs);
     put_fields(block, out, place, values);
-    put_range(block, out, place + 8);
-    place + 8 + range_size(block.ranged)
+    put_range(block.range, out, place + 8);
+    place + 8 + range_size(block.range.is_some())
 }
 
 // Whether an excess would be read as a range, where the block has none.
 fn is_read_as_range(ranged: bool, excess: u64) -> bool
     ensures { result ≡ read_as_range ranged excess }
 {
-    if ranged { false } else { RANGE <= excess }
+    !ranged && RANGE <= excess
 }
 
 // What the writer answers, worked out before it writes anything: 9 over 65,535 values, then 23, then 8 without room, else the block length. No sum of it
 // can overflow, whatever the excess.
-fn answer(ranged: bool, refs: usize, values: usize, excess: u64, room: usize) -> Written
+fn answer(
+    ranged: bool,
+    refs: usize,
+    values: usize,
+    excess: u64,
+    room: usize,
+) -> Result<usize, Refusal>
     requires { 8 * refs < 9223372036854775808 }
     ensures { result ≡ write_answer ranged refs values excess room }
 {
     if VALUES < values {
-        return Written::Unwritten(Refusal::Count);
+        return Err(Refusal::Count);
     }
     if is_read_as_range(ranged, excess) {
-        return Written::Unwritten(Refusal::Padding);
+        return Err(Refusal::Padding);
     }
     let size = 64 + 8 * refs + range_size(ranged) + 8 * values;
-    if size <= room {
-        if excess <= ((room - size) as u64) {
-            let length = size + (excess as usize);
-            return Written::Bytes(length);
-        }
+    if size <= room && excess <= ((room - size) as u64) {
+        return Ok(size + (excess as usize));
     }
-    Written::Unwritten(Refusal::Room)
+    Err(Refusal::Room)
+}
+
+// The block with these references and these values, each by its 64 bits, from byte 0 of `out` on.
+fn write_bits<W: Word>(
+    block: Block,
+    refs: &[u64],
+    values: &[W],
+    out: &mut [u8],
+) -> Result<usize, Refusal>
+    ensures { write_call result out.new ≡ writing block refs.now (map W.bits values.now) out.old }
+{
+    let size = answer(
+        block.range.is_some(),
+        refs.len(),
+        values.len(),
+        block.excess,
+        out.len(),
+    )?;
+    let at = put_front(block, out, refs, values.len() as u16, size as u64);
+    words::put_words(out, at, values);
+    words::put_zeros(out, at + 8 * values.len(), block.excess as usize);
+    Ok(size)
 }
 
 // The block with these references and these values' 64 bits, from byte 0 of `out` on.
-pub fn write_words(block: Block, refs: &[u64], values: &[u64], out: &mut [u8]) -> Written
+pub fn write_words(
+    block: Block,
+    refs: &[u64],
+    values: &[u64],
+    out: &mut [u8],
+) -> Result<usize, Refusal>
     ensures { write_call result out.new ≡ writing block refs.now values.now out.old }
 {
-    let says = answer(
-        block.ranged,
-        refs.len(),
-        values.len(),
-        block.excess,
-        out.len(),
-    );
-    match says {
-        Written::Bytes(n) => {
-            let at = put_front(block, out, refs, values.len() as u16, n as u64);
-            words::put_links(out, at, values);
-            words::put_zeros(out, at + 8 * values.len(), block.excess as usize);
-            Written::Bytes(n)
-        }
-        Written::Unwritten(r) => Written::Unwritten(r),
-    }
+    write_bits(block, refs, values, out)
 }
 
 // The same with the values as floats, each written by its bits.
-pub fn write(block: Block, refs: &[u64], values: &[f64], out: &mut [u8]) -> Written
+pub fn write(block: Block, refs: &[u64], values: &[f64], out: &mut [u8]) -> Result<usize, Refusal>
     ensures { write_call result out.new ≡ writing block refs.now (map (to_bits binary64) values.now) out.old }
 {
-    let says = answer(
-        block.ranged,
-        refs.len(),
-        values.len(),
-        block.excess,
-        out.len(),
-    );
-    match says {
-        Written::Bytes(size) => {
-            let at = put_front(block, out, refs, values.len() as u16, size as u64);
-            words::put_floats(out, at, values);
-            words::put_zeros(out, at + 8 * values.len(), block.excess as usize);
-            Written::Bytes(size)
-        }
-        Written::Unwritten(r) => Written::Unwritten(r),
-    }
+    write_bits(block, refs, values, out)
 }

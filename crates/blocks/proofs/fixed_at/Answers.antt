@@ -8,18 +8,8 @@ use Rattle.blocks.proofs.fixed_at.Goals as goal
 pub returns : goal.returns
 unfolding fixed_at
 returns c =
-    let a = c.args in
-    let p : c.new.result.at ≡ a.at = omega arith in
-    let q : c.read_link-name.result.next.at ≡ a.at + 8 = omega arith in
-    let r : c.read_link-unit.result.next.at ≡ a.at + 16 = omega arith in
-    let s : c.read_link-comment.result.next.at ≡ a.at + 24 = omega arith in
-    rw (
-      c.read_link-name.ensures.0,
-      c.read_link-unit.ensures.0,
-      c.read_link-comment.ensures.0,
-      c.read_link-inverse.ensures.0,
-      p,
-      q,
-      r,
-      s,
-    )
+    let at = c.args.at in
+    let unit : c.read_link-name.result.1.at ≡ at + 8 = omega arith in
+    let comment : c.read_link-unit.result.1.at ≡ at + 16 = omega arith in
+    let inverse : c.read_link-comment.result.1.at ≡ at + 24 = omega arith in
+    cc

@@ -1,9 +1,6 @@
--- The loops of `cases::all`: what stays true from turn to turn, and the measure. Assumes nothing.
-use Rattle.std.proofs.Common.{◌-◌, ◌≤◌, length}
+-- The loop of `cases::all`: its measure. Assumes nothing.
+use Rattle.std.proofs.Common.{length}
 use Rattle.cases.proofs.all.Given as goal
 
-abbrev pub invariant-loop-at : goal.invariant-loop-at
-invariant-loop-at l = length l.s ≤ 131072
-
-abbrev pub decreases-loop-at : goal.decreases-loop-at
-decreases-loop-at l = length l.s - l.at
+abbrev pub decreases-loop-marked : goal.decreases-loop-marked
+decreases-loop-marked g l = length l.rest

@@ -1,5 +1,5 @@
 -- What goes down from call to call in `engine`'s cycle, and what the loop over the groups knows. Assumes nothing.
-use Rattle.std.proofs.Common.{◌+◌, ◌*◌, ◌-◌, ◌≤◌}
+use Rattle.std.proofs.Common.{◌+◌, ◌*◌}
 use Rattle.engine.specs.Apply.{applied, groups}
 use Rattle.engine.proofs.Groups.{Sofar}
 use Rattle.engine.proofs.+apply_bit_groups_part_pass_on_range_to_text_value_to_text.Given as goal
@@ -23,7 +23,5 @@ abbrev pub decreases-value_to_text : goal.decreases-value_to_text
 decreases-value_to_text l = 4 * l.left + 2
 
 abbrev pub invariant-bit_groups-loop-i : goal.invariant-bit_groups-loop-i
-invariant-bit_groups-loop-i l = (l.i ≤ l.n) × Sofar (groups (applied l.left l.mode l.image l.text) l.image l.b l.bits l.i) l.fn.out l.out l.pos l.lim l.p l.started l.visits l.malformed
-
-abbrev pub decreases-bit_groups-loop-i : goal.decreases-bit_groups-loop-i
-decreases-bit_groups-loop-i l = l.n - l.i
+invariant-bit_groups-loop-i l =
+    Sofar (groups (applied l.left l.asked.mode l.asked.image.now l.asked.text.now) l.asked.image.now l.b l.bits l.i) l.fn.out l.out l.fn.place l.next l.started l.visits l.malformed

@@ -14,7 +14,7 @@ given : (c : After-nearest_bits-below_sign) → c.nearest_bits-below_sign.result
 given c =
     let n = c.args.n in
     c.nearest_bits-below_sign.ensures
-    ∙ ap (λ (k : ℕ). to_bits binary64 (of_int binary64 (pos k))) (c.size.ensures ∙ ap nat_abs (to_z-of_z w64 n c.ranges.n))
+    ∙ ap (λ (k : ℕ). to_bits binary64 (of_int binary64 (pos k))) (c.unsigned_abs.ensures.value ∙ ap nat_abs (to_z-of_z w64 n c.ranges.n))
 
 -- the bits of its float, which of a negative number have the sign
 plain : (c : Then-n-ge0) → c.nearest_bits-below_sign.result ≡ to_bits binary64 (of_int binary64 c.args.n)

@@ -1,4 +1,6 @@
 -- `inverse::invert_block` meets its contract. Assumes nothing.
+use Rattle.std.specs.Prelude.{Err, Ok}
+use Rattle.std.proofs.lemmas.Result.{err_from_is_err_and}
 use mathlib.Core.Path.{sym, ap, subst, ◌∙◌}
 use mathlib.Core.List.{List}
 use Prim.Native.Nat.{ℕ}
@@ -6,7 +8,6 @@ use Rattle.blocks.specs.View.{view_of}
 use Rattle.blocks.specs.declared.view.View.{View}
 use Rattle.common.specs.Written.{holding}
 use Rattle.keys.specs.Keys.{KeysIn}
-use Rattle.keys.specs.declared.Fault.TheVariants.{Faulty, Faultless}
 use Rattle.keys.proofs.Faults.{references_enough}
 use Rattle.inverse.proofs.Writing.{keys_in, key_places, block_is, other_type, of_fault, fault_seen}
 use Rattle.inverse.proofs.invert_block.Goals as goal
@@ -19,24 +20,26 @@ returns-then-b-ne-VALUE_TO_TEXT c =
 pub first_fault-requires : goal.first_fault-requires
 first_fault-requires c =
     let a = c.args in
-    subst (λ (v : View). KeysIn a.image.now v v.valcount) (sym c.of.ensures) (keys_in a.image.now a.address a.b c.requires)
+    subst (λ (v : View). KeysIn a.image.now v v.valcount) (sym c.from.ensures) (keys_in a.image.now a.address a.b c.requires)
 
 pub write_inverse-requires : goal.write_inverse-requires
 write_inverse-requires c =
     let a = c.args in
     key_places a.image.now a.address a.b c.requires (references_enough a.image.now (view_of a.b) a.b.valcount
-    (fault_seen a.image.now a.b _ _ Faultless c.of.ensures c.first_fault.ensures c.in-Faultless.is))
+    (fault_seen a.image.now a.b _ _ (Ok tt) c.from.ensures c.first_fault.ensures c.in_ok-first_fault.was))
 
-pub returns-in-Faulty : goal.returns-in-Faulty
-returns-in-Faulty c =
+pub returns-in_err-first_fault : goal.returns-in_err-first_fault
+returns-in_err-first_fault c =
     let a = c.args in
-    sym (of_fault a.image.now a.address a.b a.out.now c.if-b-ne-VALUE_TO_TEXT.false (Faulty c.in-Faulty.r)
-    (fault_seen a.image.now a.b _ _ _ c.of.ensures c.first_fault.ensures c.in-Faulty.is))
+    let p = err_from_is_err_and c.from_residual.result c.from_residual.ensures.1 in
+    rw (p.1, p.2)
+    (sym (of_fault a.image.now a.address a.b a.out.now c.if-b-ne-VALUE_TO_TEXT.false (Err c.in_err-first_fault.field-0.0)
+    (fault_seen a.image.now a.b _ _ _ c.from.ensures c.first_fault.ensures c.in_err-first_fault.was)))
 
-pub returns-in-Faultless : goal.returns-in-Faultless
-returns-in-Faultless c =
+pub returns : goal.returns
+returns c =
     let a = c.args in
-    let none = fault_seen a.image.now a.b _ _ Faultless c.of.ensures c.first_fault.ensures c.in-Faultless.is in
+    let none = fault_seen a.image.now a.b _ _ (Ok tt) c.from.ensures c.first_fault.ensures c.in_ok-first_fault.was in
     c.write_inverse.ensures
-    ∙ sym (of_fault a.image.now a.address a.b a.out.now c.if-b-ne-VALUE_TO_TEXT.false Faultless none
+    ∙ sym (of_fault a.image.now a.address a.b a.out.now c.if-b-ne-VALUE_TO_TEXT.false (Ok tt) none
     ∙ ap (λ (bytes : List ℕ). holding bytes a.out.now) (block_is a.image.now a.address a.b c.requires (references_enough a.image.now (view_of a.b) a.b.valcount none)))

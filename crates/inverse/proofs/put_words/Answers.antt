@@ -1,13 +1,16 @@
--- `inverse::put_words` meets its contract. Before each turn the words from the i-th on are still to be put. Assumes nothing.
+-- `inverse::put_words` meets its contract. Assumes nothing.
+use mathlib.Core.Path.{◌≡◌, refl}
 use native.Mathlib.Omega.{arith}
-use Rattle.inverse.proofs.Writing.{words_none, words_more, words_done}
+use Rattle.words.specs.Words.{put, words, links}
+use Rattle.inverse.proofs.Writing.{put_word_more}
 use Rattle.inverse.proofs.put_words.Goals as goal
 
 pub loop-i-init : goal.loop-i-init
-loop-i-init c = words_none _ _ _ _ _
+unfolding put words links
+loop-i-init c = refl
 
 pub loop-i-preserved : goal.loop-i-preserved
-loop-i-preserved c = words_more _ _ _ _ _ _ _ _ _ c.loop-i.invariant (omega arith) c.u64_at.ensures c.put_u64.ensures
+loop-i-preserved c = cc (put_word_more c.args.image.now c.args.first c.loop-i.i c.args.out.now c.args.at)
 
 pub returns : goal.returns
-returns c = words_done _ _ _ _ _ _ _ c.loop-i.invariant c.loop-i-test.false
+returns c = let all : c.loop-i.i ≡ c.args.count = omega arith in cc

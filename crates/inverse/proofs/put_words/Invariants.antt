@@ -1,10 +1,7 @@
--- The loops of `inverse::put_words`: what stays true from turn to turn, and the measure. Assumes nothing.
-use Prim.Native.Nat.{◌-◌}
-use Rattle.inverse.proofs.Writing.{PuttingWords}
+-- The loop of `inverse::put_words`: before each turn the first i words are out. Assumes nothing.
+use mathlib.Core.Path.{◌≡◌}
+use Rattle.words.specs.Words.{put, words, links}
 use Rattle.inverse.proofs.put_words.Given as goal
 
 abbrev pub invariant-loop-i : goal.invariant-loop-i
-invariant-loop-i l = PuttingWords l.initial.out l.at l.image l.first l.count l.i l.out
-
-abbrev pub decreases-loop-i : goal.decreases-loop-i
-decreases-loop-i l = l.count - l.i
+invariant-loop-i l = l.out ≡ put l.initial.out l.at (links (words l.image l.first l.i))

@@ -1,5 +1,7 @@
 -- `keys::has_no_text` meets its contract. Assumes nothing.
 use mathlib.Core.Path.{sym, ap, subst, ◌∙◌}
+use mathlib.Core.Bool.{Bool}
+use mathlib.Core.Logic.{inl, inr}
 use Rattle.leads.specs.Lead.{LeadIn}
 use Rattle.leads.proofs.Leads.{lead_at_inside}
 use Rattle.leads.specs.declared.lead.Lead.{Lead}
@@ -22,16 +24,5 @@ pub returns-in-Nested : goal.returns-in-Nested
 unfolding text_at
 returns-in-Nested c =
     let s = c.args in
-    ap (λ (l : Lead). is_empty (lead_text s.image.now l)) (sym c.in-Nested.is ∙ c.lead_at.ensures)
-
-pub returns-in-Nil : goal.returns-in-Nil
-unfolding text_at
-returns-in-Nil c =
-    let s = c.args in
-    ap (λ (l : Lead). is_empty (lead_text s.image.now l)) (sym c.in-Nil.is ∙ c.lead_at.ensures)
-
-pub returns-in-Elsewhere : goal.returns-in-Elsewhere
-unfolding text_at
-returns-in-Elsewhere c =
-    let s = c.args in
-    ap (λ (l : Lead). is_empty (lead_text s.image.now l)) (sym c.in-Elsewhere.is ∙ c.lead_at.ensures)
+    let empty : Lead → Bool = λ l. is_empty (lead_text s.image.now l) in
+    elim c.in-Nested.is [ inl e ↦ ap empty (sym e.1) | inr (inl e) ↦ ap empty (sym e) | inr (inr e) ↦ ap empty (sym e) ] ∙ ap empty c.lead_at.ensures

@@ -1,11 +1,7 @@
--- The loops of `keys::is_repeated_key`: what stays true from turn to turn, and the measure. Assumes nothing.
+-- The loops of `keys::is_repeated_key`: what stays true from turn to turn. Assumes nothing.
 use mathlib.Core.Path.{◌≡◌}
-use Prim.Native.Nat.{◌-◌, ◌≤◌}
 use Rattle.keys.specs.Keys.{key_among}
 use Rattle.keys.proofs.is_repeated_key.Given as goal
 
 abbrev pub invariant-loop-j : goal.invariant-loop-j
-invariant-loop-j l = (l.j ≤ l.i) × (l.found ≡ key_among l.image l.b l.i l.j)
-
-abbrev pub decreases-loop-j : goal.decreases-loop-j
-decreases-loop-j l = l.i - l.j
+invariant-loop-j l = l.found ≡ key_among l.image l.b l.i l.j

@@ -10,7 +10,7 @@ unfolding unusable
 returns-then-is_nan_key c =
     let s = c.args in
     let isnan : c.is_nan_key.result ≡ true = c.if-is_nan_key.true in
-    ap (λ (x : Bool). x || is_empty (text_at s.image.now s.b s.i)) (sym isnan ∙ c.is_nan_key.ensures)
+    isnan ∙ ap (λ (x : Bool). x || is_empty (text_at s.image.now s.b s.i)) (sym isnan ∙ c.is_nan_key.ensures)
 
 pub returns-else-is_nan_key : goal.returns-else-is_nan_key
 unfolding unusable

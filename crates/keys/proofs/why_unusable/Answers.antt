@@ -5,16 +5,16 @@ use Rattle.common.specs.declared.refusal.Refusal.TheVariants.{NotText, Key}
 use Rattle.keys.specs.Keys.{why_unusable}
 use Rattle.keys.proofs.why_unusable.Goals as goal
 
-pub returns-then-isnan : goal.returns-then-isnan
+pub returns-then-is_nan_key : goal.returns-then-is_nan_key
 unfolding why_unusable
-returns-then-isnan c =
+returns-then-is_nan_key c =
     let i = c.args.i in
-    let isnan : c.is_nan_key-isnan.result ≡ true = c.if-isnan.true in
-    ap (λ (x : Bool). cond x (Key i) (NotText i)) (sym isnan ∙ c.is_nan_key-isnan.ensures)
+    let isnan : c.is_nan_key.result ≡ true = c.if-is_nan_key.true in
+    ap (λ (x : Bool). cond x (Key i) (NotText i)) (sym isnan ∙ c.is_nan_key.ensures)
 
-pub returns-else-isnan : goal.returns-else-isnan
+pub returns-else-is_nan_key : goal.returns-else-is_nan_key
 unfolding why_unusable
-returns-else-isnan c =
+returns-else-is_nan_key c =
     let i = c.args.i in
-    let number : c.is_nan_key-isnan.result ≡ false = c.if-isnan.false in
-    ap (λ (x : Bool). cond x (Key i) (NotText i)) (sym number ∙ c.is_nan_key-isnan.ensures)
+    let number : c.is_nan_key.result ≡ false = c.if-is_nan_key.false in
+    ap (λ (x : Bool). cond x (Key i) (NotText i)) (sym number ∙ c.is_nan_key.ensures)

@@ -9,11 +9,11 @@ use Rattle.repair_block.proofs.main.Goals as goal
 
 pub slice_bounds-out-end : goal.slice_bounds-out-end
 slice_bounds-out-end c =
-    let h = held _ _ _ _ _ c.repair.ensures c.in-Bytes.is in
+    let h = held _ _ _ _ _ c.repair.ensures c.in-Ok.is in
     omega (arith, h.fits)
 
 pub slice_bounds-write_all-end : goal.slice_bounds-write_all-end
 slice_bounds-write_all-end c =
-    let h = held _ _ _ _ _ c.repair.ensures c.in-Bytes.is in
-    let fits : c.in-Bytes.k ≤ length c.repair.new.out = omega (arith, h.fits) in
+    let h = held _ _ _ _ _ c.repair.ensures c.in-Ok.is in
+    let fits : c.in-Ok.length ≤ length c.repair.new.out = omega (arith, h.fits) in
     sym (length-take-le _ _ fits)

@@ -1,5 +1,4 @@
 -- `repeats::byte_at` meets its contract. Assumes nothing.
-use mathlib.Core.Path.{◌∙◌}
 use native.Mathlib.Omega.{arith}
 use Rattle.common.proofs.Texts.{bytes_short}
 use Rattle.repeats.specs.Scan.{run_text}
@@ -14,7 +13,7 @@ overflow_add-p c =
 pub returns-then-p-t : goal.returns-then-p-t
 unfolding run_text
 returns-then-p-t c =
-    c.wide.ensures ∙ byte_here c.args.image.now c.args.t.to c.requires.0.1 c.args.t.from c.args.i c.requires.1 (omega arith)
+    byte_here c.args.image.now c.args.t.to c.requires.0.1 c.args.t.from c.args.i c.requires.1 (omega arith)
 
 pub returns-else-p-t : goal.returns-else-p-t
 unfolding run_text

@@ -14,9 +14,6 @@ use Rattle.repeats.proofs.compare.Goals as goal
 goes_on : (q t : List ℕ) (i c d : ℕ) → i ≤ in_common q t → c ≡ get_or q i 0 → d ≡ get_or t i 0 → c ≡ d → (c ≡ 0 → ⊥) → i + 1 ≤ in_common q t
 goes_on q t i c d h here there same z = one_more q t i h (sym here ∙ same ∙ there) (λ e. z (here ∙ e))
 
-pub loop-x-init : goal.loop-x-init
-loop-x-init c = c.requires.2
-
 pub byte_at-c-requires : goal.byte_at-c-requires
 byte_at-c-requires c =
     let img = c.args.image.now in
@@ -53,11 +50,6 @@ overflow_add-i c =
     let img = c.args.image.now in
     let x = c.args.x in
     omega (arith, goes_on (run_text c.args.image.now c.args.x) (run_text c.args.image.now c.args.y) c.loop-x.i _ _ c.loop-x.invariant c.byte_at-c.ensures c.byte_at.ensures c.if-c-byte_at.false c.if-c-eq0.false, in_common_short (run_text img x) (run_text img c.args.y), bytes_short img x.from x.to, c.requires.0.1)
-
-pub loop-x-smaller : goal.loop-x-smaller
-loop-x-smaller c =
-    let img = c.args.image.now in
-    omega (arith, goes_on (run_text c.args.image.now c.args.x) (run_text c.args.image.now c.args.y) c.loop-x.i _ _ c.loop-x.invariant c.byte_at-c.ensures c.byte_at.ensures c.if-c-byte_at.false c.if-c-eq0.false, in_common_short (run_text img c.args.x) (run_text img c.args.y))
 
 pub loop-x-preserved : goal.loop-x-preserved
 loop-x-preserved c =

@@ -1,10 +1,7 @@
 -- `repeats::first_repeat` meets its contract. The chunks before `start` have been gone through. Assumes nothing.
-use Rattle.repeats.proofs.Chunks.{first_none, first_more}
+use Rattle.repeats.proofs.Chunks.{first_more}
 use Rattle.repeats.proofs.Firsts.{first_found}
 use Rattle.repeats.proofs.first_repeat.Goals as goal
-
-pub loop-start-init : goal.loop-start-init
-loop-start-init c = let s = c.args in first_none s.image.now s.b s.n
 
 pub loop-start-preserved : goal.loop-start-preserved
 loop-start-preserved c =

@@ -1,10 +1,6 @@
--- The loops of `repeats::is_among`: what stays true from turn to turn, and the measure. Assumes nothing.
-use Prim.Native.Nat.{◌-◌, ◌≤◌}
+-- The loops of `repeats::is_among`: what stays true from turn to turn. Assumes nothing.
 use Rattle.repeats.specs.Scan.{NoneIs}
 use Rattle.repeats.proofs.is_among.Given as goal
 
-abbrev pub invariant-loop-k : goal.invariant-loop-k
-invariant-loop-k l = (l.k ≤ l.count) × NoneIs l.hashes l.k l.h l.found
-
-abbrev pub decreases-loop-k : goal.decreases-loop-k
-decreases-loop-k l = l.count - l.k
+abbrev pub invariant-loop-hash : goal.invariant-loop-hash
+invariant-loop-hash l = NoneIs l.hashes l.hash-index l.h l.found

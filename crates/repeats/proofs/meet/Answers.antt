@@ -4,9 +4,8 @@ use mathlib.Core.List.{List}
 use Prim.Native.Nat.{ℕ, ◌≤◌}
 use native.Mathlib.Omega.{arith}
 use Rattle.repeats.specs.Repeats.{text_at}
-use Rattle.repeats.specs.Scan.{in_common, run_text, MetBy}
+use Rattle.repeats.specs.Scan.{in_common, run_text}
 use Rattle.repeats.proofs.Common.{meets_first, meets_later, meets_both, meets_mark, meets_within}
-use Rattle.repeats.proofs.Runs.{one_run}
 use Rattle.repeats.proofs.meet.Goals as goal
 
 pub returns-then-a-s : goal.returns-then-a-s
@@ -26,9 +25,6 @@ returns-then-byte_at-mark c =
     meets_mark (run_text c.args.image.now c.args.q) (text_at c.args.image.now c.args.b c.args.i) c.args.a c.args.s c.args.mark c.requires.1 (omega arith)
     (λ e. c.if-byte_at-mark.true (c.byte_at.ensures ∙ e))
 
-pub returns-then-t-q-2 : goal.returns-then-t-q-2
-returns-then-t-q-2 c = one_run c.args.image.now c.run_at-t.result c.args.q c.if-t-q.true c.if-t-q-2.true ∙ c.run_at-t.ensures.text
-
 pub compare-requires : goal.compare-requires
 compare-requires c = (
   c.requires.0,
@@ -36,7 +32,3 @@ compare-requires c = (
   subst (λ (t : List ℕ). c.args.a ≤ in_common (run_text c.args.image.now c.args.q) t) (sym c.run_at-t.ensures.text)
       (meets_both (run_text c.args.image.now c.args.q) (text_at c.args.image.now c.args.b c.args.i) c.args.a c.args.s c.args.mark c.requires.1 (omega arith)),
 )
-
-pub returns : goal.returns
-returns c =
-    subst (λ (t : List ℕ). MetBy (run_text c.args.image.now c.args.q) t c.compare.result) c.run_at-t.ensures.text c.compare.ensures

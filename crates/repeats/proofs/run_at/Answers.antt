@@ -1,5 +1,6 @@
 -- `repeats::run_at` meets its contract. Assumes nothing.
 use mathlib.Core.Path.{refl, sym, ap, ◌∙◌}
+use mathlib.Core.Logic.{inl, inr}
 use Rattle.repeats.specs.Repeats.{lead_text}
 use Rattle.repeats.proofs.Runs.{run_words, run_none}
 use Rattle.repeats.proofs.run_at.Goals as goal
@@ -12,14 +13,7 @@ returns-in-Words c =
 pub returns-in-Nested : goal.returns-in-Nested
 returns-in-Nested c =
     let s = c.args in
-    run_none s.image.now s.b s.i _ refl refl (ap (lead_text s.image.now) (sym c.lead_at.ensures ∙ c.in-Nested.is))
-
-pub returns-in-Nil : goal.returns-in-Nil
-returns-in-Nil c =
-    let s = c.args in
-    run_none s.image.now s.b s.i _ refl refl (ap (lead_text s.image.now) (sym c.lead_at.ensures ∙ c.in-Nil.is))
-
-pub returns-in-Elsewhere : goal.returns-in-Elsewhere
-returns-in-Elsewhere c =
-    let s = c.args in
-    run_none s.image.now s.b s.i _ refl refl (ap (lead_text s.image.now) (sym c.lead_at.ensures ∙ c.in-Elsewhere.is))
+    run_none s.image.now s.b s.i _ refl refl (
+    ap (lead_text s.image.now) (sym c.lead_at.ensures)
+    ∙ elim c.in-Nested.is [ inl e ↦ ap (lead_text s.image.now) e.1 | inr (inl e) ↦ ap (lead_text s.image.now) e | inr (inr e) ↦ ap (lead_text s.image.now) e ]
+    )

@@ -1,8 +1,6 @@
 -- `words::u64_at` meets its contract. Assumes nothing.
-use borrow.Author.Rules.{rules}
-use Rattle.words.specs.Words.{word64}
+use Rattle.words.proofs.LittleEndian.{word64_read}
 use Rattle.words.proofs.u64_at.Goals as goal
 
 pub returns : goal.returns
-unfolding word64
-returns c = search rules
+returns c = cc (word64_read c.args.s.now c.args.at)

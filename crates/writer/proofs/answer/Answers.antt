@@ -1,13 +1,14 @@
 -- `writer::answer` meets its contract. Assumes nothing.
+use Rattle.std.specs.Prelude.{Ok}
 use mathlib.Core.Path.{◌≡◌, sym, ap, ◌∙◌}
 use mathlib.Core.Bool.{Bool, true, false}
-use Prim.Native.Nat.{ℕ, ◌+◌, ◌*◌}
+use Prim.Native.Nat.{ℕ, ◌+◌, ◌*◌, ◌<◌}
 use native.Mathlib.Omega.{arith}
 use Rattle.blocks.specs.Block.{range_size}
 use Rattle.writer.specs.Write.{write_size, read_as_range}
-use Rattle.common.specs.declared.written.Written.TheVariants.{Bytes}
 use Rattle.writer.proofs.Writing.{too_many, no_range, no_room, enough}
 use Rattle.writer.proofs.answer.Goals as goal
+use Rattle.writer.proofs.answer.Goals.{else-size-room-via-then-size-room+else-excess-room, else-size-room-via-else-size-room}
 
 -- once the size is known
 size_is : (ranged : Bool) (refs values excess : ℕ) {range : ℕ} → range ≡ range_size ranged
@@ -34,16 +35,15 @@ pub returns-then-excess-room : goal.returns-then-excess-room
 returns-then-excess-room c =
     let a = c.args in
     let e = size_is a.ranged a.refs a.values a.excess c.range_size.ensures.0 in
-    ap Bytes e ∙ sym (enough a.ranged a.refs a.values a.excess a.room c.if-values-gt-VALUES.false (unread a.ranged a.excess c.is_read_as_range.ensures c.if-is_read_as_range.false) (omega arith))
+    ap Ok e ∙ sym (enough a.ranged a.refs a.values a.excess a.room c.if-values-gt-VALUES.false (unread a.ranged a.excess c.is_read_as_range.ensures c.if-is_read_as_range.false) (omega arith))
 
-pub returns-else-excess-room : goal.returns-else-excess-room
-returns-else-excess-room c =
+pub returns : goal.returns
+returns c =
     let a = c.args in
     let e = size_is a.ranged a.refs a.values a.excess c.range_size.ensures.0 in
-    sym (no_room a.ranged a.refs a.values a.excess a.room c.if-values-gt-VALUES.false (unread a.ranged a.excess c.is_read_as_range.ensures c.if-is_read_as_range.false) (omega arith))
-
-pub returns-else-size-room : goal.returns-else-size-room
-returns-else-size-room c =
-    let a = c.args in
-    let e = size_is a.ranged a.refs a.values a.excess c.range_size.ensures.0 in
-    sym (no_room a.ranged a.refs a.values a.excess a.room c.if-values-gt-VALUES.false (unread a.ranged a.excess c.is_read_as_range.ensures c.if-is_read_as_range.false) (omega arith))
+    let past : a.room < write_size a.ranged a.refs a.values a.excess =
+    elim c.else-size-room.branch [
+      | else-size-room-via-then-size-room+else-excess-room w ↦ omega (arith, e, w.if-excess-room.false)
+      | else-size-room-via-else-size-room w ↦ omega (arith, e, w.if-size-room.false)
+    ] in
+    sym (no_room a.ranged a.refs a.values a.excess a.room c.if-values-gt-VALUES.false (unread a.ranged a.excess c.is_read_as_range.ensures c.if-is_read_as_range.false) past)

@@ -1,11 +1,11 @@
 -- `writer::is_read_as_range` meets its contract. Assumes nothing.
-use mathlib.Core.Path.{sym, ap}
+use mathlib.Core.Path.{refl, sym, ap}
 use mathlib.Core.Bool.{Bool}
 use Rattle.writer.specs.Write.{read_as_range}
 use Rattle.writer.proofs.is_read_as_range.Goals as goal
 
-pub returns-then-ranged : goal.returns-then-ranged
-returns-then-ranged c = ap (λ (r : Bool). read_as_range r c.args.excess) (sym c.if-ranged.true)
+pub returns-then-not-ranged : goal.returns-then-not-ranged
+returns-then-not-ranged c = ap (λ (r : Bool). read_as_range r c.args.excess) (sym c.if-not-ranged.true)
 
-pub returns-else-ranged : goal.returns-else-ranged
-returns-else-ranged c = ap (λ (r : Bool). read_as_range r c.args.excess) (sym c.if-ranged.false)
+pub returns-else-not-ranged : goal.returns-else-not-ranged
+returns-else-not-ranged c = rw c.if-not-ranged.false refl

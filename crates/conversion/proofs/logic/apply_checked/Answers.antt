@@ -11,19 +11,24 @@ use Rattle.conversion.proofs.logic.apply_checked.Goals as goal
 
 pub apply-x-requires : goal.apply-x-requires
 apply-x-requires c =
-    (omega arith, omega arith, (acceptance c.args.image.now c.args.address c.args.limit c.args.n c.requires).header)
+    let a = c.args in
+    (search arith, (acceptance a.asked.now.image.now a.address a.limit a.n c.requires).header)
 
 pub settle-answer-requires : goal.settle-answer-requires
 settle-answer-requires c =
-    let x = c.apply-x in
-    let same = sym x.ensures.wrote.same in
-    ((acceptance c.args.image.now c.args.address c.args.limit c.args.n c.requires).header, subst (λ (m : ℕ). Says c.args.image.now m 0 (applied 21 c.args.mode c.args.image.now c.args.text.now c.args.address c.args.value).says x.result.said) same x.ensures.says)
+    let a = c.args in
+    let k = a.asked.now in
+    let x = c.apply-x in (
+      (acceptance k.image.now a.address a.limit a.n c.requires).header,
+      subst (λ (m : ℕ). Says k.image.now m 0 (applied 21 k.mode k.image.now k.text.now a.address a.value).says x.result.said) (sym x.ensures.wrote.same) x.ensures.says,
+    )
 
 pub returns : goal.returns
 returns c =
+    let a = c.args in
+    let k = a.asked.now in
     let x = c.apply-x in
-    let w = c.settle-answer.result in
-    settle (applied 21 c.args.mode c.args.image.now c.args.text.now c.args.address c.args.value) c.args.n c.args.address
-    (visits_fit c.args.mode c.args.image.now c.args.text.now c.args.address c.args.limit c.args.n c.args.value c.requires (omega arith))
-    c.args.out.now _ x.result.visits x.result.malformed w x.ensures.count x.ensures.flag
-    (answered_from c.args.address (applied 21 c.args.mode c.args.image.now c.args.text.now c.args.address c.args.value).says (untouched x.ensures.wrote) c.settle-answer.ensures)
+    settle (applied 21 k.mode k.image.now k.text.now a.address a.value) a.n a.address
+    (visits_fit k.mode k.image.now k.text.now a.address a.limit a.n a.value c.requires (omega arith))
+    a.out.now _ x.result.visits x.result.malformed c.settle-answer.result x.ensures.count x.ensures.flag
+    (answered_from _ _ (untouched x.ensures.wrote) c.settle-answer.ensures)

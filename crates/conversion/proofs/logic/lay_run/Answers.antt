@@ -13,21 +13,20 @@ use Rattle.conversion.proofs.logic.lay_run.Goals as goal
 pub returns-then-out-size : goal.returns-then-out-size
 returns-then-out-size c =
     let a = c.args in
-    too_long a.address (text_bytes a.image.now a.from a.to) a.out.now (omega (arith, c.measure-end.ensures, c.if-out-size.true))
+    too_long a.address (text_bytes a.image.now a.run.from a.run.to) a.out.now (omega (arith, c.measure.ensures, c.if-out-size.true))
 
 pub copy-requires : goal.copy-requires
 copy-requires c =
     let a = c.args in
-    let m = c.measure-end.ensures in
-    let short = bytes_short a.image.now a.from a.to in
-    (omega (arith, c.if-out-size.false), (omega (arith, m), omega (arith, m, short)))
+    let m = c.measure.ensures in
+    (omega (arith, c.if-out-size.false), (omega (arith, m), omega (arith, m, bytes_short a.image.now a.run.from a.run.to)))
 
 pub returns : goal.returns
 returns c =
     let a = c.args in
     let img = a.image.now in
-    let t = text_bytes img a.from a.to in
-    let n = c.measure-end.result - a.from in
-    let size : n ≡ length t = omega (arith, c.measure-end.ensures, c.if-out-size.false) in
+    let t = text_bytes img a.run.from a.run.to in
+    let n = c.measure.result - a.run.from in
+    let size : n ≡ length t = omega (arith, c.measure.ensures, c.if-out-size.false) in
     fitting a.address t a.out.now n size (omega (arith, c.if-out-size.false))
-    (same_text (looked_part img a.from a.to n (omega arith) ∙ take_all n t (omega arith)) c.copy.ensures)
+    (same_text (looked_part img a.run.from a.run.to n (omega arith) ∙ take_all n t (omega arith)) c.copy.ensures)

@@ -1,54 +1,33 @@
 -- `leads::keys::is_same` meets its contract. Assumes nothing.
-use mathlib.Core.Path.{refl, sym, ◌∙◌}
+use mathlib.Core.Path.{◌≡◌, sym, ◌∙◌}
+use mathlib.Core.Logic.{⊎_elim}
+use Prim.Native.Nat.{◌+◌}
 use native.Mathlib.Omega.{arith}
-use Rattle.leads.proofs.Same.{same_longer, same_ended, same_more, same_stop, same_all}
+use Rattle.leads.proofs.Same.{same_longer, same_ended, same_more, same_stop}
 use Rattle.leads.proofs.keys.is_same.Goals as goal
 
-pub returns-then-to-from : goal.returns-then-to-from
-returns-then-to-from c =
+pub returns-then-run-text : goal.returns-then-run-text
+returns-then-run-text c =
     let s = c.args in
-    sym (same_longer s.image.now s.text.now s.to (omega arith) s.from c.if-to-from.true)
+    sym (same_longer s.image.now s.text.now s.run.to (omega arith) s.run.from c.if-run-text.true)
 
-pub loop-i-init : goal.loop-i-init
-loop-i-init c = (omega arith, (omega arith, (omega arith, (omega arith, refl))))
-
-pub returns-then-b-text : goal.returns-then-b-text
-returns-then-b-text c =
+pub returns-then-b-c : goal.returns-then-b-c
+returns-then-b-c c =
     let l = c.loop-i in
     let s = c.args in
+    let p = s.run.from + l.i in
     sym
-    (l.invariant.1.1.1.1
-    ∙ same_stop s.image.now s.text.now s.to (omega arith) l.p l.i (omega arith) (omega arith) c.if-b-text.true)
-
-pub returns-then-b-eq0 : goal.returns-then-b-eq0
-returns-then-b-eq0 c =
-    let l = c.loop-i in
-    let s = c.args in
-    sym
-    (l.invariant.1.1.1.1
-    ∙ same_ended s.image.now s.text.now s.to (omega arith) l.p l.i (omega arith) (omega arith) c.if-b-eq0.true)
+    (l.invariant
+    ∙ ⊎_elim
+    (λ other. same_stop s.image.now s.text.now s.run.to (omega arith) p l.i (omega arith) (omega arith) other)
+    (λ zero. same_ended s.image.now s.text.now s.run.to (omega arith) p l.i (omega arith) (omega arith) zero.1)
+    c.then-b-c.either)
 
 pub loop-i-preserved : goal.loop-i-preserved
 loop-i-preserved c =
     let l = c.loop-i in
-    let s = c.args in (
-      omega arith,
-      (
-        omega arith,
-        (
-          omega arith,
-          (
-            omega arith,
-            l.invariant.1.1.1.1
-                ∙ same_more s.image.now s.text.now s.to (omega arith) l.p l.i (omega arith) (omega arith) c.if-b-text.false c.if-b-eq0.false,
-          ),
-        ),
-      ),
-    )
-
-pub returns : goal.returns
-returns c =
-    let l = c.loop-i in
     let s = c.args in
-    c.is_end-ended.ensures
-    ∙ sym (l.invariant.1.1.1.1 ∙ same_all s.image.now s.text.now s.to (omega arith) l.p l.i c.loop-i-test.false)
+    let place : s.run.from + (l.i + 1) ≡ s.run.from + l.i + 1 = omega arith in
+    l.invariant
+    ∙ rw place
+    (same_more s.image.now s.text.now s.run.to (omega arith) (s.run.from + l.i) l.i (omega arith) (omega arith) c.if-b-c.false c.if-b-eq0.false)

@@ -3,10 +3,10 @@ use mathlib.Core.Path.{sym, ap, ◌∙◌}
 use Rattle.leads.specs.Lead.{lead_at, by_link}
 use Rattle.leads.proofs.lead.lead_at.Goals as goal
 
-pub returns-in-Bits : goal.returns-in-Bits
+pub returns-in-Some : goal.returns-in-Some
 unfolding lead_at
-returns-in-Bits c = c.lead_of.ensures ∙ ap (by_link c.args.image.now) (sym c.in-Bits.is ∙ c.reference.ensures)
+returns-in-Some c = c.lead_of.ensures ∙ ap (by_link c.args.image.now) (sym c.in-Some.is ∙ c.reference.ensures)
 
-pub returns-in-NoWord : goal.returns-in-NoWord
+pub returns-in-None : goal.returns-in-None
 unfolding lead_at
-returns-in-NoWord c = ap (by_link c.args.image.now) (sym c.in-NoWord.is ∙ c.reference.ensures)
+returns-in-None c = ap (by_link c.args.image.now) (sym c.in-None.is ∙ c.reference.ensures)

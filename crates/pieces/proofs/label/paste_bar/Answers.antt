@@ -10,4 +10,4 @@ returns-then-started c = rw c.if-started.true c.paste_byte.ensures
 
 pub returns-else-started : goal.returns-else-started
 unfolding bar
-returns-else-started c = rw c.if-started.false (empty _ _ _ (omega arith))
+returns-else-started c = rw c.if-started.false (empty _ _ (omega arith))

@@ -6,4 +6,4 @@ use Rattle.pieces.proofs.label.paste_label.Goals as goal
 
 pub returns : goal.returns
 unfolding label
-returns c = then (omega arith) c.paste_bar-p.ensures c.paste_name.ensures
+returns c = then (omega arith) c.paste_bar-behind.ensures c.paste_name.ensures

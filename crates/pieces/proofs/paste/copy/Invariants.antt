@@ -1,12 +1,8 @@
--- The loops of `pieces::paste::copy`: what stays true from turn to turn, and the measure. Assumes nothing.
-use mathlib.Core.Path.{◌≡◌}
-use Prim.Native.Nat.{◌+◌, ◌-◌, ◌≤◌}
-use Rattle.words.specs.Words.{part}
+-- The loop of `pieces::paste::copy`: the bytes before i stand in the output. Assumes nothing.
+use Prim.Native.Nat.{◌≤◌}
+use lib.ListN.{take, drop}
 use Rattle.pieces.specs.Write.{Wrote}
 use Rattle.pieces.proofs.paste.copy.Given as goal
 
 abbrev pub invariant-loop-i : goal.invariant-loop-i
-invariant-loop-i l = (l.from ≤ l.i) × ((l.i ≤ l.to) × ((l.p ≡ l.pos + (l.i - l.from)) × Wrote l.initial.out l.out l.pos l.lim (part l.image l.from l.i)))
-
-abbrev pub decreases-loop-i : goal.decreases-loop-i
-decreases-loop-i l = l.to - l.i
+invariant-loop-i l = (l.i ≤ l.n) × Wrote l.fn.out l.out l.place.pos l.place.lim (take l.i (drop l.span.from l.image))

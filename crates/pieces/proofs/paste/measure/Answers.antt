@@ -9,6 +9,7 @@ use Rattle.pieces.proofs.paste.measure.Goals as goal
 pub returns : goal.returns
 returns c =
     let a = c.args in
+    let from = a.run.from in
     c.text_end.ensures
-    ∙ ap (λ (k : ℕ). a.from + length (text_bytes a.image.now a.from k)) c.reach.ensures
-    ∙ ap (λ (n : ℕ). a.from + n) (looked_at a.image.now a.from a.to (a.room + 1 - a.pos) c.requires.0)
+    ∙ ap (λ (k : ℕ). from + length (text_bytes a.image.now from k)) c.reach.ensures
+    ∙ ap (λ (n : ℕ). from + n) (looked_at a.image.now from a.run.to (a.room + 1 - a.pos) c.requires.0)

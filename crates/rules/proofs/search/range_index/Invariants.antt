@@ -1,12 +1,10 @@
--- The loops of `rules::search::range_index`: what stays true from turn to turn, and the measure. Assumes nothing.
+-- The loop of `rules::search::range_index`: what stays true from turn to turn. Assumes nothing.
 use mathlib.Core.Path.{◌≡◌}
-use Prim.Native.Nat.{◌+◌, ◌-◌, ◌*◌, ◌≤◌}
-use Rattle.rules.specs.Values.{values}
+use Prim.Native.Nat.{◌+◌, ◌*◌}
+use lib.ListN.{drop}
+use Rattle.rules.specs.Stored.{listed}
 use Rattle.rules.specs.Search.{first_range}
 use Rattle.rules.proofs.search.range_index.Given as goal
 
 abbrev pub invariant-loop-i : goal.invariant-loop-i
-invariant-loop-i l = (l.at ≡ l.p + l.i * 16) × ((l.i ≤ l.pairs) × (first_range l.whole (values l.image l.p l.n) l.x ≡ l.i + first_range l.whole (values l.image l.at (l.n - l.i * 2)) l.x))
-
-abbrev pub decreases-loop-i : goal.decreases-loop-i
-decreases-loop-i l = l.pairs - l.i
+invariant-loop-i l = first_range l.whole (listed l.values) l.x ≡ l.i + first_range l.whole (drop (2 * l.i) (listed l.values)) l.x

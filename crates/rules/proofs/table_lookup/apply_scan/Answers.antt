@@ -1,35 +1,47 @@
 -- `rules::table_lookup::apply_scan` meets its contract. Assumes nothing.
-use mathlib.Core.Path.{◌≡◌, refl, sym, ◌∙◌}
+use mathlib.Core.Path.{◌≡◌, sym, ap, ◌∙◌}
 use mathlib.Core.Bool.{true, false, ◌&&◌}
-use Prim.Native.Nat.{◌+◌}
+use Prim.Native.Nat.{◌+◌, ◌-◌, ◌*◌}
 use native.Mathlib.Omega.{arith}
-use lib.Ieee.{le}
-use Rattle.words.specs.Words.{value_at}
-use Rattle.rules.proofs.Steps.{scan_none, scan_hit, scan_miss}
+use lib.ListN.{length, drop}
+use lib.Ieee.{Float, le}
+use Rattle.rules.specs.Stored.{listed, stored_value}
+use Rattle.rules.specs.Table.{scan}
+use Rattle.rules.proofs.Steps.{values_length, scan_none, scan_hit, scan_miss}
 use Rattle.rules.proofs.table_lookup.apply_scan.Goals as goal
 
-pub loop-left-init : goal.loop-left-init
-loop-left-init c = (omega arith, (c.value_at-k0.ensures, refl))
+pub loop-i-init : goal.loop-i-init
+loop-i-init c =
+    let v = c.args.values in
+    ap (λ (k : Float). scan c.args.near k (stored_value v 1) (drop 2 (listed v)) c.args.x) (sym c.at-k0.ensures)
 
 pub returns-then-is_between : goal.returns-then-is_between
 returns-then-is_between c =
     let a = c.args in
-    let img = a.image.now in
-    let t : (le (value_at img c.loop-left.at) a.x && le a.x (value_at img (c.loop-left.at + 16))) ≡ true =
-    rw (sym c.loop-left.invariant.1.0, sym c.value_at-k1.ensures) (sym c.is_between.ensures ∙ c.if-is_between.true) in
+    let v = c.args.values in
+    let len : length (listed v) ≡ v.count = values_length v.image.now v.first v.count in
+    let l = c.loop-i in
+    let t : (le l.k0 a.x && le a.x (stored_value v (2 * l.i))) ≡ true = rw (sym c.at-k1.ensures) (sym c.is_between.ensures ∙ c.if-is_between.true) in
     c.at_between.ensures
-    ∙ rw (c.loop-left.invariant.1.0, c.value_at-k1.ensures, c.value_at.ensures, c.value_at-then-is_between.ensures)
-    (sym (c.loop-left.invariant.1.1 ∙ scan_hit img a.near a.x c.loop-left.at c.loop-left.left c.loop-left-test.true t))
+    ∙ rw (c.at-k1.ensures, c.at.ensures, c.at-then-is_between.ensures)
+    (sym (l.invariant ∙ scan_hit (listed v) a.near a.x l.k0 (stored_value v (2 * l.i - 1)) (2 * l.i) (omega arith) t))
 
-pub loop-left-preserved : goal.loop-left-preserved
-loop-left-preserved c =
+pub loop-i-preserved : goal.loop-i-preserved
+loop-i-preserved c =
     let a = c.args in
-    let img = a.image.now in
-    let t : (le (value_at img c.loop-left.at) a.x && le a.x (value_at img (c.loop-left.at + 16))) ≡ false =
-    rw (sym c.loop-left.invariant.1.0, sym c.value_at-k1.ensures) (sym c.is_between.ensures ∙ c.if-is_between.false) in
-    (omega arith, (c.value_at-k1.ensures, c.loop-left.invariant.1.1 ∙ scan_miss img a.near a.x c.loop-left.at c.loop-left.left c.loop-left-test.true t))
+    let v = c.args.values in
+    let len : length (listed v) ≡ v.count = values_length v.image.now v.first v.count in
+    let l = c.loop-i in
+    let t : (le l.k0 a.x && le a.x (stored_value v (2 * l.i))) ≡ false = rw (sym c.at-k1.ensures) (sym c.is_between.ensures ∙ c.if-is_between.false) in
+    let next : 2 * (l.i + 1) ≡ 2 * l.i + 2 = omega arith in
+    let behind : 2 * l.i + 2 - 1 ≡ 2 * l.i + 1 = omega arith in
+    rw (c.at-k1.ensures, next, behind)
+    (l.invariant ∙ scan_miss (listed v) a.near a.x l.k0 (stored_value v (2 * l.i - 1)) (2 * l.i) (omega arith) t)
 
 pub returns : goal.returns
 returns c =
     let a = c.args in
-    sym (c.loop-left.invariant.1.1 ∙ scan_none a.image.now a.near a.x c.loop-left.at c.loop-left.left (omega arith))
+    let v = c.args.values in
+    let len : length (listed v) ≡ v.count = values_length v.image.now v.first v.count in
+    let l = c.loop-i in
+    sym (l.invariant ∙ scan_none (listed v) a.near a.x l.k0 (stored_value v (2 * l.i - 1)) (2 * l.i) (omega arith))

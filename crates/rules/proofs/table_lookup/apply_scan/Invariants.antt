@@ -1,13 +1,13 @@
--- The loops of `rules::table_lookup::apply_scan`: what stays true from turn to turn, and the measure. Assumes nothing.
+-- The loop of `rules::table_lookup::apply_scan`: the lower key is that of the pair before, and the answer is the one from that pair on. Assumes
+-- nothing.
 use mathlib.Core.Path.{◌≡◌}
-use Prim.Native.Nat.{◌+◌, ◌*◌, ◌≤◌}
-use lib.ListN.{length}
-use Rattle.words.specs.Words.{value_at}
-use Rattle.rules.proofs.Steps.{scan_at}
+use Prim.Native.Nat.{◌-◌, ◌*◌}
+use lib.ListN.{drop}
+use Rattle.rules.specs.Stored.{listed, stored_value}
+use Rattle.rules.specs.Table.{scan}
 use Rattle.rules.proofs.table_lookup.apply_scan.Given as goal
 
-abbrev pub invariant-loop-left : goal.invariant-loop-left
-invariant-loop-left l = (l.at + 16 + l.left * 16 ≤ length l.image) × ((l.k0 ≡ value_at l.image l.at) × (scan_at l.image l.near l.x l.p l.m ≡ scan_at l.image l.near l.x l.at l.left))
-
-abbrev pub decreases-loop-left : goal.decreases-loop-left
-decreases-loop-left l = l.left
+abbrev pub invariant-loop-i : goal.invariant-loop-i
+invariant-loop-i l =
+    scan l.near (stored_value l.values 0) (stored_value l.values 1) (drop 2 (listed l.values)) l.x
+    ≡ scan l.near l.k0 (stored_value l.values (2 * l.i - 1)) (drop (2 * l.i) (listed l.values)) l.x

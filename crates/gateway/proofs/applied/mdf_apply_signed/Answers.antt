@@ -1,8 +1,0 @@
--- `gateway::applied::mdf_apply_signed` meets its contract. Assumes nothing.
-use mir.Syntax.{w64}
-use mir.ValLaws.{to_z-of_z}
-use Rattle.gateway.proofs.Faces.{faced}
-use Rattle.gateway.proofs.applied.mdf_apply_signed.Goals as goal
-
-pub returns : goal.returns
-returns c = faced _ _ _ _ (rw (to_z-of_z w64 c.args.value c.ranges.value) at c.apply.ensures) c.applied_face.ensures

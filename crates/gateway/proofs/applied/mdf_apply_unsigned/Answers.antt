@@ -1,6 +1,0 @@
--- `gateway::applied::mdf_apply_unsigned` meets its contract. Assumes nothing.
-use Rattle.gateway.proofs.Faces.{faced}
-use Rattle.gateway.proofs.applied.mdf_apply_unsigned.Goals as goal
-
-pub returns : goal.returns
-returns c = faced _ _ _ _ c.apply.ensures c.applied_face.ensures
