@@ -49,6 +49,7 @@ block_face b =
       ranged = flag_of (is_some b.range);
     }
 
+-- its range, where `ranged` says that there is one; else its four fields are not looked at
 abbrev pub range_of : MdfBlock → Option Range
 range_of b =
     cond (is_set b.ranged) (Some (record { minimum = b.minimum; maximum = b.maximum; minword = b.minword; maxword = b.maxword })) None

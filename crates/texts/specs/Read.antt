@@ -32,11 +32,12 @@ read_at img a = cond (has_id (id_word Tx) img a) (read_as Tx img a) (cond (has_i
 unfoldable pub reading : List ℕ → ℕ → Result TextRead Refusal
 reading img a = cond (inside img a) (read_at img a) (Err (Outside a))
 
--- "Conversions still take ##TX only": the text that a conversion's link gives of what is read at its address (`as_linked`)
+-- "Conversions still take ##TX only"
 abbrev pub tx_text : TextId → Span → Option Span
 tx_text Tx s = Some s
 tx_text Md s = None
 
+-- the text that a conversion's link gives of what is read at its address (`as_linked`)
 abbrev pub link_text : Result TextRead Refusal → Option Span
 link_text (Ok t) = tx_text t.id t.text
 link_text (Err r) = None

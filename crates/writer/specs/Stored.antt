@@ -45,7 +45,7 @@ stored a b refs values =
 unfoldable pub stored_kept : ℕ → Block → ℕ → ℕ → Block
 stored_kept a b refs values = with_padding (stored a b refs values) b.reserved b.excess
 
--- each field has the size of its type
+-- each field of a range has the size of its type
 pub record SizedRange (r : Range) : Type 0 where
   pub minimum : T (fits binary64 r.minimum)
   pub maximum : T (fits binary64 r.maximum)
@@ -56,6 +56,7 @@ abbrev pub RangeFits : Option Range → Type 0
 RangeFits (Some r) = SizedRange r
 RangeFits None = Unit {0}
 
+-- each field has the size of its type, those of the range where there is one
 pub record Sized (b : Block) : Type 0 where
   pub name : b.name < 2 ^ 64
   pub unit : b.unit < 2 ^ 64
