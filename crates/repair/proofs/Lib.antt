@@ -1,4 +1,3 @@
-pub mod Gathering
 pub mod Holding
 pub mod Reading
 pub mod Laws

@@ -5,8 +5,8 @@ use Prim.Native.Nat.{ℕ, zero, suc, ◌+◌, ◌*◌, ◌/◌, ◌%◌, ◌^◌
 use native.Mathlib.Nat.{add_assoc, mod-eq_of_lt, div-eq_of_lt, add-mul-mod_self_right, add-mul-div_right}
 use native.Mathlib.Numerals.{add-one}
 use native.Mathlib.Omega.{arith}
-use lib.ListN.{length, get_or, take, drop}
-use lib.Seq.{drop-cons, drop-drop, drop-append_seam, get_or-drop, take-add}
+use lib.ListN.{length, get_or, take, drop, set}
+use lib.Seq.{drop-cons, drop-drop, drop-append_seam, get_or-drop, take-add, take-suc-set}
 use Rattle.words.specs.Words.{word16, word32, word64, words, bytes2, bytes4, bytes8, links}
 use Rattle.words.proofs.Laws.{Words64}
 
@@ -61,6 +61,12 @@ words_last s at zero = let e : at ≡ at + 8 * 0 = omega arith in ap (λ (p : �
 words_last s at (suc n) =
     let e : at + 8 + 8 * n ≡ at + 8 * suc n = omega arith in
     ap (λ (ws : List ℕ). word64 s at ∷ ws) (words_last s (at + 8) n ∙ ap (λ (p : ℕ). words s (at + 8) n ++ (word64 s p ∷ [])) e)
+
+-- words read one by one into a list of numbers: the next is stored behind those that were
+pub gathered : (s : List ℕ) (first i w : ℕ) (into : List ℕ) → i < length into → take i into ≡ words s first i → w ≡ word64 s (first + 8 * i)
+    → take (i + 1) (set into i w) ≡ words s first (i + 1)
+gathered s first i w into h e f =
+    rw (add-one, take-suc-set into i w h, words_last s first i, e, f)
 
 module _ (s : List ℕ) (h : Bytes s) where
   -- ---- each number has its width

@@ -2,7 +2,7 @@
 use mathlib.Core.Path.{refl}
 use native.Mathlib.Omega.{arith}
 use Rattle.words.specs.Words.{words}
-use Rattle.repair.proofs.Gathering.{gathered}
+use Rattle.words.proofs.Slices.{gathered}
 use Rattle.repair.proofs.gather.Goals as goal
 
 pub loop-i-init : goal.loop-i-init
