@@ -21,16 +21,16 @@ module _ (img : List ℕ) (b : View) (start : ℕ) where
 
   -- ---- the text q held against the numbers in order
   -- the row of k tells of k
-  pub through : (q agree : List ℕ) (r : Row) (k i : ℕ) → RowOf img b start k r → 0 < k → start + k ≡ i + 1 → Agreed img b start q agree k
-      → Through q (text_at img b i) (get_or agree r.below 0) r.shared r.mark
-  through q agree r k i w some e agreed =
+  pub through : (q agree : List ℕ) (r : Row) (s k i : ℕ) → RowOf img b start k r s → 0 < k → start + k ≡ i + 1 → Agreed img b start q agree k
+      → Through q (text_at img b i) (get_or agree r.below 0) s r.mark
+  through q agree r s k i w some e agreed =
       let n = number_is k i some e in
       let p = numbered img b start r.below in
       record {
         third = p;
         one = sym (agreed r.below w.0).0;
         other = ap (λ (t : List ℕ). in_common t p) (sym n) ∙ sym w.1;
-        behind = w.2 ∙ ap (λ (t : List ℕ). get_or t r.shared 0) n;
+        behind = w.2 ∙ ap (λ (t : List ℕ). get_or t s 0) n;
       }
 
   pub agreed_none : (q agree : List ℕ) → 0 < length agree → Agreed img b start q (set agree 0 0) 1
@@ -49,18 +49,18 @@ module _ (img : List ℕ) (b : View) (start : ℕ) where
 
   -- ---- one number more
   -- its row
-  pub row_more : (q agree : List ℕ) (m : ℕ) (r : Row) → q ≡ numbered img b start m → Agreed img b start q agree m
-      → r.below < m → r.shared ≡ get_or agree r.below 0 → r.mark ≡ get_or q r.shared 0 → RowOf img b start m r
-  row_more q agree m r e agreed less shared mark = (
+  pub row_more : (q agree : List ℕ) (m : ℕ) (r : Row) (s : ℕ) → q ≡ numbered img b start m → Agreed img b start q agree m
+      → r.below < m → s ≡ get_or agree r.below 0 → r.mark ≡ get_or q s 0 → RowOf img b start m r s
+  row_more q agree m r s e agreed less shared mark = (
     less,
     shared ∙ (agreed r.below less).0 ∙ ap (λ (t : List ℕ). in_common t (numbered img b start r.below)) e,
-    mark ∙ ap (λ (t : List ℕ). get_or t r.shared 0) e,
+    mark ∙ ap (λ (t : List ℕ). get_or t s 0) e,
   )
 
-  pub kept_more : (rows : List Row) (m : ℕ) (r : Row) → m < length rows → Kept img b start rows m → RowOf img b start m r
-      → Kept img b start (set rows m r) (m + 1)
-  kept_more rows m r inner kept new k some last =
-      below_more (λ (i : ℕ). 0 < i → RowOf img b start i (get_or (set rows m r) i no_row)) m
-      (λ i l p. rw (get_or-set_other rows m i r no_row (λ x. omega (arith, x))) (kept i p l))
-      (λ p. rw (get_or-set_same rows m r no_row inner) new)
+  pub kept_more : (rows : List Row) (shared : List ℕ) (m : ℕ) (r : Row) (s : ℕ) → m < length rows → m < length shared → Kept img b start rows shared m
+      → RowOf img b start m r s → Kept img b start (set rows m r) (set shared m s) (m + 1)
+  kept_more rows shared m r s inner within kept new k some last =
+      below_more (λ (i : ℕ). 0 < i → RowOf img b start i (get_or (set rows m r) i no_row) (get_or (set shared m s) i 0)) m
+      (λ i l p. rw (get_or-set_other rows m i r no_row (λ x. omega (arith, x)), get_or-set_other shared m i s 0 (λ x. omega (arith, x))) (kept i p l))
+      (λ p. rw (get_or-set_same rows m r no_row inner, get_or-set_same shared m s 0 within) new)
       k last some

@@ -42,20 +42,20 @@ unfoldable pub numbered : List ℕ → View → ℕ → ℕ → List ℕ
 numbered img b start zero = []
 numbered img b start (suc k) = text_at img b (start + k)
 
--- what is kept of a number: a number below, how much the two texts have in common, and the byte behind that
-abbrev pub RowOf : List ℕ → View → ℕ → ℕ → Row → Type 0
-RowOf img b start k r =
+-- what is kept of a number: a number below, how much the two texts have in common (s), and the byte behind that
+abbrev pub RowOf : List ℕ → View → ℕ → ℕ → Row → ℕ → Type 0
+RowOf img b start k r s =
     (r.below < k)
-    × (r.shared ≡ in_common (numbered img b start k) (numbered img b start r.below))
-    × (r.mark ≡ get_or (numbered img b start k) r.shared 0)
+    × (s ≡ in_common (numbered img b start k) (numbered img b start r.below))
+    × (r.mark ≡ get_or (numbered img b start k) s 0)
 
 -- the row where there is none
 abbrev pub no_row : Row
-no_row = record { below = 0; mark = 0; shared = 0 }
+no_row = record { below = 0; mark = 0 }
 
 -- the rows of the numbers under m
-abbrev pub Kept : List ℕ → View → ℕ → List Row → ℕ → Type 0
-Kept img b start rows m = (k : ℕ) → 0 < k → k < m → RowOf img b start k (get_or rows k no_row)
+abbrev pub Kept : List ℕ → View → ℕ → List Row → List ℕ → ℕ → Type 0
+Kept img b start rows shared m = (k : ℕ) → 0 < k → k < m → RowOf img b start k (get_or rows k no_row) (get_or shared k 0)
 
 -- how much the text q has in common with each number under m; it is the text of none
 abbrev pub Agreed : List ℕ → View → ℕ → List ℕ → List ℕ → ℕ → Type 0

@@ -28,12 +28,12 @@ const NUMBERS: usize = 256;
 // The texts of a chunk.
 const CHUNK: usize = 255;
 
-// What is kept of a text of a chunk: a number below its own, how much the two texts have in common, and the byte of its own behind that.
+// What is kept of a text of a chunk beside how much it has in common with the text of a number below its own: that number, and the byte of its own behind
+// what they have in common.
 #[derive(Clone, Copy)]
 struct Row {
     below: u8,
     mark: u8,
-    shared: usize,
 }
 
 // A chunk of the texts, from the index `start` on: what is kept of each number under `count`.
@@ -44,11 +44,11 @@ struct Chunk<'a> {
     start: usize,
     count: usize,
     rows: [Row; NUMBERS],
-    // Beside the rows and from 0 on, so that the machine can compare several at a time: the first is that of number 1.
-    hashes: [u32; NUMBERS],
+    // How much the text of each number has in common with that below it. Beside the rows: within them it made each 16 bytes of which 6 are empty, and a
+    // text of a chunk that is new took up to 1.3 times the time.
+    shared: [usize; NUMBERS],
     ghost few: { (0 < count) × (count ≤ 256) × (start + count ≤ 65536) },
-    ghost kept: { Kept image.now b start rows count },
-    ghost hashed: { Hashed image.now b start (count - 1) hashes },
+    ghost kept: { Kept image.now b start rows shared count },
 }
 
 // The run of the i-th text. No text is as an empty one.
@@ -168,7 +168,7 @@ impl Chunk<'_> {
         for k in 1..self.count {
             let row = self.rows[k];
             let a = agree[row.below as usize];
-            match meet(image, b, q, start + k - 1, a, row.shared, row.mark) {
+            match meet(image, b, q, start + k - 1, a, self.shared[k], row.mark) {
                 Some(m) => {
                     agree[k] = m;
                 }
@@ -192,9 +192,8 @@ impl Chunk<'_> {
         self.rows[self.count] = Row {
             below: below as u8,
             mark: byte_at(self.image, q, shared),
-            shared,
         };
-        self.hashes[self.count - 1] = hash_of(self.image, q);
+        self.shared[self.count] = shared;
         self.count += 1;
     }
 
@@ -214,21 +213,39 @@ impl Chunk<'_> {
         stop
     }
 
+    // The hashes of the chunk's texts, from 0 on, so that the machine can compare several at a time: the first is that of number 1. They stand beside the
+    // chunk, and only once it is known that its own texts differ: a chunk that has a repeat costs no text more than what others have in common with it.
+    fn hash_all(&self, hashes: &mut [u32; NUMBERS])
+        ensures { Hashed self.now.image.now self.now.b self.now.start (self.now.count - 1) hashes.new }
+    {
+        for k in 0..self.count - 1 {
+            hashes[k] = hash_of(self.image, run_at(self.image, self.b, self.start + k));
+        }
+    }
+
     // Whether the text q is that of a number. Its hash tells, for most, that it is not.
-    fn is_one_of(&self, q: Span, agree: &mut [usize; NUMBERS]) -> bool
-        requires { RunIn self.now.image.now q }
+    fn is_one_of(&self, hashes: &[u32; NUMBERS], q: Span, agree: &mut [usize; NUMBERS]) -> bool
+        requires run { RunIn self.now.image.now q }
+        requires hashed { Hashed self.now.image.now self.now.b self.now.start (self.now.count - 1) hashes.now }
         ensures { Told self.now.image.now self.now.b self.now.start (run_text self.now.image.now q) self.now.count result }
     {
-        is_among(&self.hashes[..self.count - 1], hash_of(self.image, q)) && self.hold(q, agree)
+        is_among(&hashes[..self.count - 1], hash_of(self.image, q)) && self.hold(q, agree)
     }
 
     // The texts behind the chunk, from the index `stop` on: the first under `bound` that is equal to one of the chunk's, or `bound`.
-    fn search(&self, stop: usize, bound: usize, agree: &mut [usize; NUMBERS]) -> usize
-        requires { (stop + 1 ≡ self.now.start + self.now.count) × (stop ≤ bound) × (bound ≤ 65535) }
+    fn search(
+        &self,
+        hashes: &[u32; NUMBERS],
+        stop: usize,
+        bound: usize,
+        agree: &mut [usize; NUMBERS],
+    ) -> usize
+        requires stop { (stop + 1 ≡ self.now.start + self.now.count) × (stop ≤ bound) × (bound ≤ 65535) }
+        requires hashed { Hashed self.now.image.now self.now.b self.now.start (self.now.count - 1) hashes.now }
         ensures { Gone self.now.image.now self.now.b self.now.start stop bound result }
     {
         for i in stop..bound {
-            if self.is_one_of(run_at(self.image, self.b, i), agree) {
+            if self.is_one_of(hashes, run_at(self.image, self.b, i), agree) {
                 return i;
             }
         }
@@ -241,12 +258,11 @@ fn repeat_of(image: &[u8], b: View, start: usize, bound: usize) -> usize
     requires { (start ≤ bound) × (bound ≤ 65535) }
     ensures { FirstRepeat image.now b start (start + 255) bound result }
 {
-    // Filled with numbers that are known only at run time: with a constant, or with a byte, the compiler would call the C library's memset,
+    // Filled, here and below, with numbers that are known only at run time: with a constant, or with a byte, the compiler would call the C library's memset,
     // and the archive calls no library.
     let row = Row {
-        below: 0,
+        below: (start % 256) as u8,
         mark: 0,
-        shared: start,
     };
     let mut chunk = Chunk {
         image,
@@ -254,17 +270,18 @@ fn repeat_of(image: &[u8], b: View, start: usize, bound: usize) -> usize
         start,
         count: 1,
         rows: [row; NUMBERS],
-        hashes: [start as u32; NUMBERS],
+        shared: [start; NUMBERS],
     };
     // Beside the chunk: within it the worst image took 7.18 s in place of 5.54 s.
     let mut agree = [start; NUMBERS];
     let stop = bound.min(start + CHUNK);
     let r = chunk.fill(stop, &mut agree);
     if r < stop {
-        r
-    } else {
-        chunk.search(stop, bound, &mut agree)
+        return r;
     }
+    let mut hashes = [start as u32; NUMBERS];
+    chunk.hash_all(&mut hashes);
+    chunk.search(&hashes, stop, bound, &mut agree)
 }
 
 // The first of the n texts that is equal to an earlier one; n if there is none.

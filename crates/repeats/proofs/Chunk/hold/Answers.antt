@@ -20,7 +20,7 @@ meet-requires c =
     let s = c.args.self.now in
     let l = c.loop-k in (
       c.requires,
-      through s.image.now s.b s.start (run_text s.image.now c.args.q) l.agree (get_or s.rows l.k no_row) l.k (s.start + l.k - 1)
+      through s.image.now s.b s.start (run_text s.image.now c.args.q) l.agree (get_or s.rows l.k no_row) (get_or s.shared l.k 0) l.k (s.start + l.k - 1)
           (s.kept l.k l.auto.k c.loop-k-test.true) l.auto.k (omega arith) l.invariant,
     )
 

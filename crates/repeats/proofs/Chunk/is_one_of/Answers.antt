@@ -10,4 +10,4 @@ returns-else-is_among c =
     let s = c.args.self.now in
     let img = s.image.now in
     rw c.if-is_among.false
-    (hash_tells img s.b s.start s.count c.hash_of.result (run_text img c.args.q) s.hashes c.hash_of.ensures s.hashed (search rules) (c.if-is_among.ensures refl))
+    (hash_tells img s.b s.start s.count c.hash_of.result (run_text img c.args.q) c.args.hashes.now c.hash_of.ensures c.requires.hashed (search rules) (c.if-is_among.ensures refl))

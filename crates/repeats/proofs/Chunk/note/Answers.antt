@@ -1,13 +1,11 @@
 -- `repeats::Chunk::note` meets its contract. Assumes nothing.
-use mathlib.Core.Path.{◌≡◌, refl, sym, ap, ◌∙◌}
+use mathlib.Core.Path.{refl, sym, ◌∙◌}
 use Prim.Native.Nat.{◌+◌, ◌-◌}
 use native.Mathlib.Omega.{arith}
 use borrow.Author.Rules.{rules}
-use Rattle.repeats.specs.Repeats.{text_at}
-use Rattle.repeats.specs.Scan.{run_text, hash_of}
+use Rattle.repeats.specs.Scan.{run_text}
 use Rattle.repeats.proofs.Common.{no_longer}
 use Rattle.repeats.proofs.Numbers.{number_is, row_more, kept_more}
-use Rattle.repeats.proofs.Hashes.{hashed_more}
 use Rattle.repeats.proofs.Chunk.note.Goals as goal
 
 pub byte_at-requires : goal.byte_at-requires
@@ -20,13 +18,9 @@ invariant_of-self c =
     let img = s.image.now in
     let m = s.count in
     let is = c.requires.next.text ∙ sym (number_is img s.b s.start m (s.start + m - 1) s.few.0 (omega arith)) in
-    let here : s.start + m - 1 ≡ s.start + (m - 1) = omega (arith, s.few.0) in
     record {
       few = (omega arith, omega arith, omega arith);
       kept =
-          kept_more img s.b s.start s.rows m _ (search rules) s.kept
-          (row_more img s.b s.start (run_text img c.args.q) c.args.agree.now m _ is c.requires.agreed c.largest-below.ensures refl c.byte_at.ensures);
-      hashed = λ k less.
-          hashed_more img s.b s.start (m - 1) c.hash_of.result s.hashes (search rules) s.hashed (c.hash_of.ensures ∙ ap hash_of (c.requires.next.text ∙ ap (text_at img s.b) here))
-          k (omega (arith, s.few.0));
+          kept_more img s.b s.start s.rows s.shared m _ _ (search rules) (search rules) s.kept
+          (row_more img s.b s.start (run_text img c.args.q) c.args.agree.now m _ _ is c.requires.agreed c.largest-below.ensures refl c.byte_at.ensures);
     }
