@@ -195,9 +195,17 @@ fn bit_groups(
                 next.pos = end;
                 started = true;
             }
-            Said::Formula | Said::Broken => {
+            // Two arms, so that a wrong build can turn one of them.
+            Said::Formula => {
                 return Outcome {
-                    said: x.said,
+                    said: Said::Formula,
+                    visits,
+                    malformed,
+                };
+            }
+            Said::Broken => {
+                return Outcome {
+                    said: Said::Broken,
                     visits,
                     malformed,
                 };

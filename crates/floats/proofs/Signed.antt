@@ -1,6 +1,6 @@
 -- A signed number by its size and its sign, as the code has them: the machine reads a number back from its bits after each step, and for numbers in
 -- range that changes nothing. Then its 64 bits and its float's bits. Assumes nothing.
-use Rattle.std.proofs.Common.{◌≡◌, ◌+◌, ◌^◌, true, false, ℤ, pos, negsuc, nat_abs, sym, refl, ◌∙◌, subst, true≢false, w64, SFits, to_z, of_z}
+use Rattle.std.proofs.Common.{◌≡◌, ◌+◌, ◌^◌, true, false, ℤ, pos, negsuc, nat_abs, sym, refl, ap, ◌∙◌, subst, true≢false, w64, SFits, to_z, of_z}
 use mathlib.Core.Bool.{false≢true}
 use lib.Dec.{leb-zero}
 use lib.Signed.{le_z}
@@ -23,6 +23,10 @@ pub bits_are_twos : (z : ℤ) → of_z w64 z ≡ twos z
 unfolding twos
 bits_are_twos (pos n) = refl
 bits_are_twos (negsuc k) = refl
+
+-- as the machine gives them
+pub bits_as_read : (z : ℤ) → SFits w64 z → of_z w64 (read z) ≡ twos z
+bits_as_read z F = ap (of_z w64) (to_z-of_z w64 z F) ∙ bits_are_twos z
 
 pub float_turned : (z : ℤ) → SFits w64 z → le_z (pos 0) (read z) ≡ false
     → 2 ^ 63 + to_bits binary64 (of_int binary64 (pos (nat_abs z))) ≡ to_bits binary64 (of_int binary64 z)

@@ -1,7 +1,7 @@
 // f64 and its 64 bits, both ways and for every pattern; whole numbers rounded to f64, by its bits and with no float operation.
 // Carries over the integer half of `extract_numeric` in linear.rs and the crate's uses of `f64::from_bits` and `to_bits`.
 //
-// The language has one NaN and leaves its own `from_bits` and `to_bits` undefined there, so both functions here test for it first. The bits that
+// The language has one NaN and leaves its own `from_bits` and `to_bits` undefined there, so both functions here test for it first. These tests stand here and are not left to std's functions: what a NaN is read as and written as is a number of this code. The bits that
 // `from_u64` and `from_i64` put together are no NaN's, and are read without a test.
 
 #![tactic(auto)]
@@ -12,8 +12,6 @@ ghost use Rattle.std.specs.Float.Ieee.{of_int, nan_bits};
 ghost use Rattle.std.specs.Float.Ieee.Nearest.{closest};
 ghost use Rattle.floats.specs.Twos.{twos};
 ghost use Rattle.floats.specs.Kept.{kept_bits};
-
-use std::num::{f64_from_bits_with_nan, f64_to_bits_with_nan};
 
 // Whether 64 bits spell a NaN: those below the sign are above infinity's.
 pub fn is_nan_pattern(bits: u64) -> bool
@@ -26,14 +24,22 @@ pub fn is_nan_pattern(bits: u64) -> bool
 pub fn from_bits(bits: u64) -> f64
     ensures { result ≡ from_bits binary64 bits }
 {
-    f64_from_bits_with_nan(bits)
+    if is_nan_pattern(bits) {
+        0.0 / 0.0
+    } else {
+        f64::from_bits(bits)
+    }
 }
 
 // The 64 bits of a float. A NaN reads back as 0x7ff8_0000_0000_0000.
 pub fn to_bits(x: f64) -> u64
     ensures { result ≡ to_bits binary64 x }
 {
-    f64_to_bits_with_nan(x)
+    if x.is_nan() {
+        0x7ff8_0000_0000_0000
+    } else {
+        f64::to_bits(x)
+    }
 }
 
 // The bits to write for a float that was read from `word`: its own, and of a NaN those of `word` if they spell one.
@@ -95,6 +101,7 @@ pub fn from_i64(n: i64) -> f64
 }
 
 // The 64 bits of a signed number, in two's complement.
+#[tactic(auto, using(crate::proofs::Signed::bits_as_read))]
 pub fn bits_of_i64(n: i64) -> u64
     ensures { result ≡ twos n }
 {

@@ -2,9 +2,11 @@
 -- Assumes nothing.
 use mathlib.Core.Path.{◌≡◌, refl, sym, subst, ◌∙◌}
 use mathlib.Core.Bool.{Bool, false}
-use mathlib.Core.List.{List, [], ◌++◌}
+use mathlib.Core.List.{List, [], ◌∷◌, ◌++◌}
 use Prim.Native.Nat.{ℕ, suc, ◌+◌, ◌≤◌}
 use native.Mathlib.Omega.{arith}
+use denote.Enum.Declared.{tag_of}
+use types.Run.{OneOf, miss}
 use lib.ListN.{length, length-append}
 use Rattle.words.proofs.Clash.{clash}
 use Rattle.common.specs.Text.{text_bytes}
@@ -19,6 +21,7 @@ use Rattle.pieces.specs.Did.{Says, SaysText, SaidIn, laid, laid_text, Did, NoWor
 use Rattle.pieces.specs.declared.said.Said.{Said}
 use Rattle.pieces.specs.declared.said.Said.TheVariants as said
 use Rattle.pieces.specs.declared.said.Outcome.{Outcome}
+use Rattle.pieces.specs.contracts.said.Said as saids
 use Rattle.pieces.proofs.Laws.{none, forget, next, then}
 
 -- a plain answer writes nothing
@@ -134,3 +137,13 @@ module _ (img : List ℕ) {o p q pre : List ℕ} {at e : Place} (fits : at.lim �
     flag = did.flag;
     wrote = prefixed_laid x r.said did.says did.wrote;
   }
+
+-- any word but a part of the image
+pub no_words : (s : Said) → OneOf (0 ∷ 2 ∷ 3 ∷ 4 ∷ 5 ∷ 6 ∷ []) (tag_of saids.the_type s) → NoWords s
+no_words (said.Number x) h = tt
+no_words (said.Words run) h = absurd (miss (0 ∷ 2 ∷ 3 ∷ 4 ∷ 5 ∷ 6 ∷ []) 1 tt h)
+no_words (said.Text e) h = tt
+no_words said.Unchanged h = tt
+no_words said.Unknown h = tt
+no_words said.Formula h = tt
+no_words said.Broken h = tt

@@ -127,21 +127,21 @@ pub fn put_u16(out: &mut [u8], at: usize, v: u16)
     requires { at + 2 ≤ length out.old }
     ensures { out.new ≡ put out.old at (bytes2 v) }
 {
-    put_bytes(out, at, v.to_le_bytes());
+    put_bytes(out, at, u16::to_le_bytes(v));
 }
 
 pub fn put_u32(out: &mut [u8], at: usize, v: u32)
     requires { at + 4 ≤ length out.old }
     ensures { out.new ≡ put out.old at (bytes4 v) }
 {
-    put_bytes(out, at, v.to_le_bytes());
+    put_bytes(out, at, u32::to_le_bytes(v));
 }
 
 pub fn put_u64(out: &mut [u8], at: usize, v: u64)
     requires { at + 8 ≤ length out.old }
     ensures { out.new ≡ put out.old at (bytes8 v) }
 {
-    put_bytes(out, at, v.to_le_bytes());
+    put_bytes(out, at, u64::to_le_bytes(v));
 }
 
 // What is written as 64 bits: a number as it is, and a float by its bits.

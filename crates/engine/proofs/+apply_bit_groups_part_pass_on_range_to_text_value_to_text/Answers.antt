@@ -1,6 +1,7 @@
 -- The functions of `engine` that call each other meet their contracts. Assumes nothing.
 use mathlib.Core.Path.{◌≡◌, refl, sym, subst}
 use mathlib.Core.Bool.{◌||◌}
+use mathlib.Core.Logic.{inl, inr}
 use Prim.Native.Nat.{◌+◌}
 use native.Mathlib.Omega.{arith}
 use Rattle.common.specs.declared.text.Span.{Span}
@@ -57,9 +58,17 @@ bit_groups-part-x-requires t c =
 pub bit_groups-returns-in-Formula : goal.bit_groups-returns-in-Formula
 bit_groups-returns-in-Formula t c =
     let a = c.args.asked.now in
-    stop _ _ _ _ c.loop-i.i c.group_count-i-end.result c.loop-i.next c.loop-i.started c.loop-i-test.true c.group_count-i-end.ensures c.in-Formula.is
-    (turn (applied c.args.left a.mode a.image.now a.text.now) a.image.now c.args.b c.args.bits c.loop-i.i c.saturating_add-visits.result c.mask_at.result c.lead_at-lead.result c.part-x.result.said c.loop-i.malformed
-    c.requires.0 c.loop-i.invariant c.lead_at-lead.ensures c.mask_at.ensures c.part-x.ensures.0 c.part-x.ensures.1 c.saturating_add-visits.ensures refl)
+    stop _ _ _ _ c.loop-i.i c.group_count-i-end.result c.loop-i.next c.loop-i.started c.loop-i-test.true c.group_count-i-end.ensures (inl refl)
+    (turn (applied c.args.left a.mode a.image.now a.text.now) a.image.now c.args.b c.args.bits c.loop-i.i c.saturating_add-visits.result c.mask_at.result c.lead_at-lead.result said.Formula c.loop-i.malformed
+    c.requires.0 c.loop-i.invariant c.lead_at-lead.ensures c.mask_at.ensures c.part-x.ensures.0 c.part-x.ensures.1 c.saturating_add-visits.ensures c.in-Formula.is)
+    refl refl
+
+pub bit_groups-returns-in-Broken : goal.bit_groups-returns-in-Broken
+bit_groups-returns-in-Broken t c =
+    let a = c.args.asked.now in
+    stop _ _ _ _ c.loop-i.i c.group_count-i-end.result c.loop-i.next c.loop-i.started c.loop-i-test.true c.group_count-i-end.ensures (inr refl)
+    (turn (applied c.args.left a.mode a.image.now a.text.now) a.image.now c.args.b c.args.bits c.loop-i.i c.saturating_add-visits.result c.mask_at.result c.lead_at-lead.result said.Broken c.loop-i.malformed
+    c.requires.0 c.loop-i.invariant c.lead_at-lead.ensures c.mask_at.ensures c.part-x.ensures.0 c.part-x.ensures.1 c.saturating_add-visits.ensures c.in-Broken.is)
     refl refl
 
 pub bit_groups-loop-i-preserved : goal.bit_groups-loop-i-preserved
