@@ -5,7 +5,6 @@ use crate::{block, build, say, value, write};
 use common::refusal::Refusal;
 use lines::read::{NotUnderstood, Operands};
 use lines::refusal::Told;
-use std::alloc::AllocError;
 use std::io;
 
 // Why a command is not answered.
@@ -13,7 +12,7 @@ use std::io;
 pub enum Failure {
     NotUnderstood,
     Refused(Refusal),
-    // Output or memory failed.
+    // Output failed.
     System(io::Error),
 }
 
@@ -35,16 +34,10 @@ impl From<io::Error> for Failure {
     }
 }
 
-impl From<AllocError> for Failure {
-    fn from(error: AllocError) -> Self {
-        Failure::System(io::Error::from(error))
-    }
-}
-
 // Commands go by their letters to the end: the table is written in them, and an enum would name each twice.
 // What begins with a byte below the digits or behind the letters is no command: a remark begins with a space.
 fn obeyed(
-    rt: &(impl Print + AllocGlobal),
+    rt: &impl Print,
     mark: Mark,
     letter: u8,
     operands: Operands,
@@ -67,12 +60,7 @@ fn obeyed(
 }
 
 // Obeys a command, which stands behind its mark.
-pub fn obey(
-    rt: &(impl Print + AllocGlobal),
-    mark: Mark,
-    command: &[u8],
-    memory: &mut Memory,
-) -> io::Result<()> {
+pub fn obey(rt: &impl Print, mark: Mark, command: &[u8], memory: &mut Memory) -> io::Result<()> {
     let [letter, rest @ ..] = command else {
         return Ok(());
     };

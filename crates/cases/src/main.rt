@@ -16,15 +16,16 @@ mod say;
 mod value;
 mod write;
 
+use lines::input::read_full;
 use mark::{Marked, next};
 use memory::Memory;
-use std::io::{self, Read, Write};
+use std::io::{self, Write};
 
 // The most bytes that are read.
-const MOST: u64 = 131072;
+const MOST: usize = 131072;
 
-// Writes what stands between the commands, and obeys these.
-fn all(rt: &(impl Print + AllocGlobal), cases: &[u8], memory: &mut Memory) -> io::Result<()> {
+// Writes what stands between the commands, and obeys these. Output that is not taken is left out, and what comes next is tried.
+fn all(rt: &impl Print, cases: &[u8], memory: &mut Memory) {
     let mut rest = cases;
     while let Some(marked) = next(rest) {
         let Marked {
@@ -33,16 +34,17 @@ fn all(rt: &(impl Print + AllocGlobal), cases: &[u8], memory: &mut Memory) -> io
             command,
             behind,
         } = marked;
-        io::writer(rt).write_all(before)?;
-        command::obey(rt, mark, command, memory)?;
+        let _ = io::writer(rt).write_all(before);
+        let _ = command::obey(rt, mark, command, memory);
         rest = behind;
     }
-    io::writer(rt).write_all(rest)
+    let _ = io::writer(rt).write_all(rest);
 }
 
-fn main(rt: HostRuntime) -> io::Result<()> {
-    let mut cases = Vec::new(rt.alloc());
-    rt.reader().take(MOST).read_to_end(&mut cases)?;
-    let mut memory = Memory::new(rt.alloc())?;
-    all(&rt, cases.as_slice(), &mut memory)
+fn main(rt: HostRuntime) {
+    // Arrays, here and below: each has one size, and no memory is asked for.
+    let mut cases = [0; MOST];
+    let count = read_full(&mut rt.reader(), &mut cases);
+    let mut memory = Memory::new();
+    all(&rt, &cases[..count], &mut memory);
 }

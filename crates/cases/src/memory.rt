@@ -1,13 +1,12 @@
 // The one memory that the commands build and ask of.
 use lines::build::{Unit, put};
 use lines::parts::{part, word};
-use std::alloc::{AllocError, Global};
 
 // 600000 bytes, in which a block of 65535 values has room, and behind them the numbers that the cases share. A command may write and read these by
 // their places, as all other bytes, so they are no fields.
 #[derive(Drop)]
 pub struct Memory {
-    pub bytes: Vec<u8>,
+    pub bytes: [u8; 600056],
 }
 
 // The address, the visit limit, the room, the width and the edition of a call, the size of the image, and the count of the values that the rules are
@@ -28,9 +27,10 @@ const COUNT: usize = 600048;
 
 impl Memory {
     // Each byte is 170 at first.
-    pub fn new(alloc: Global) -> Result<Self, AllocError> {
-        let bytes = vec![in alloc; 170; 600056]?;
-        Ok(Memory { bytes })
+    pub fn new() -> Self {
+        Memory {
+            bytes: [170; 600056],
+        }
     }
 
     fn shared(&self, place: usize) -> u64 {

@@ -3,9 +3,9 @@ use crate::command::Failure;
 use crate::mark::Mark;
 use crate::memory::Memory;
 use blocks::Block;
+use common::refusal::Refusal;
 use lines::parts::{part, room, word};
 use lines::read::Operands;
-use std::alloc::{AllocError, Global};
 
 // The record of the writing cases, made by its own functions.
 fn made() -> Block {
@@ -29,44 +29,58 @@ fn record(letter: u8, bytes: &[u8]) -> Block {
     block
 }
 
-// So many values, but no more than one too many for a block: the word at 176, and from then on the word at 184.
-fn values_of(alloc: Global, bytes: &[u8], count: u64) -> Result<Vec<u64>, AllocError> {
-    let count = count.min(65536) as usize;
-    let mut values = vec![in alloc; word(bytes, 184); count]?;
-    if let Some(first) = values.first_mut() {
-        *first = word(bytes, 176);
-    }
-    Ok(values)
+// The most values that a command writes, one too many for a block: the first is the word at 176, and all others the word at 184. They stand in an array:
+// memory that is taken and given back for each command took most of the time.
+const MOST: usize = 65536;
+
+// The values as floats.
+fn write_floats(
+    block: Block,
+    references: &[u64],
+    first: u64,
+    others: u64,
+    count: usize,
+    out: &mut [u8],
+) -> Result<usize, Refusal> {
+    let mut values = [floats::from_bits(others); MOST];
+    values[0] = floats::from_bits(first);
+    writer::write(block, references, part(&values, 0, count), out)
 }
 
-fn floats_of(alloc: Global, words: &[u64]) -> Result<Vec<f64>, AllocError> {
-    words
-        .iter()
-        .map(|bits| floats::from_bits(*bits))
-        .collect(alloc)
+// The same with the values as words.
+fn write_words(
+    block: Block,
+    references: &[u64],
+    first: u64,
+    others: u64,
+    count: usize,
+    out: &mut [u8],
+) -> Result<usize, Refusal> {
+    let mut values = [others; MOST];
+    values[0] = first;
+    writer::write_words(block, references, part(&values, 0, count), out)
 }
 
 // Writes to the room between two places, with as many of the references and of the values as the command says, by W as words and else as floats. Says
 // how it went where that is asked, which braces do.
 pub fn write(
-    rt: &(impl Print + AllocGlobal),
+    rt: &impl Print,
     mark: Mark,
     letter: u8,
     mut operands: Operands,
     memory: &mut Memory,
 ) -> Result<(), Failure> {
     let [from, to, reference_count, value_count] = operands.numbers::<4>();
-    let bytes = memory.bytes.as_mut_slice();
+    let bytes = &mut memory.bytes;
     let block = record(letter, bytes);
     let references = [word(bytes, 160), word(bytes, 168)];
     let references = part(&references, 0, reference_count as usize);
-    let values = values_of(rt.alloc(), bytes, value_count)?;
+    let (first, others, count) = (word(bytes, 176), word(bytes, 184), value_count as usize);
     let out = room(bytes, from as usize, to as usize);
     let written = if letter == b'W' {
-        writer::write_words(block, references, values.as_slice(), out)
+        write_words(block, references, first, others, count, out)
     } else {
-        let floats = floats_of(rt.alloc(), values.as_slice())?;
-        writer::write(block, references, floats.as_slice(), out)
+        write_floats(block, references, first, others, count, out)
     };
     operands.end()?;
     if mark == Mark::Braces {

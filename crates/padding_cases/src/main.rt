@@ -9,11 +9,12 @@ mod parse;
 mod said;
 mod write;
 
+use lines::input::read_full;
 use lines::read::Operands;
-use std::io::{self, Read};
+use std::io;
 
 // The most bytes of the input that are read.
-const INPUT: u64 = 16384;
+const INPUT: usize = 16384;
 
 // Room for a block of 65,535 values and some bytes behind it.
 const MEMORY: usize = 524416;
@@ -40,13 +41,13 @@ fn answer(rt: &impl Print, line: &[u8], mem: &mut [u8]) -> io::Result<()> {
     println!(rt)
 }
 
-fn main(rt: HostRuntime) -> io::Result<()> {
-    let mut input = Vec::new(rt.alloc());
-    rt.reader().take(INPUT).read_to_end(&mut input)?;
+fn main(rt: HostRuntime) {
     // Arrays here and below: each has one size, and nothing grows.
+    let mut input = [0; INPUT];
+    let count = read_full(&mut rt.reader(), &mut input);
     let mut mem = [0; MEMORY];
-    for line in input.split_inclusive(|byte| *byte == b'\n') {
-        answer(&rt, line.strip_suffix(b"\n").unwrap_or(line), &mut mem)?;
+    for line in input[..count].split_inclusive(|byte| *byte == b'\n') {
+        // What cannot be written of a line is left out, and the next one is tried.
+        let _ = answer(&rt, line.strip_suffix(b"\n").unwrap_or(line), &mut mem);
     }
-    Ok(())
 }

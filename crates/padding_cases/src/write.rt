@@ -42,8 +42,14 @@ impl Case {
     }
 }
 
+// By hand: by `all` it took three times the work.
 fn are_all(bytes: &[u8], byte: u8) -> bool {
-    bytes.iter().all(|b| *b == byte)
+    for b in bytes {
+        if *b != byte {
+            return false;
+        }
+    }
+    true
 }
 
 // What stands in the output then: the block parsed with its padding, zeros as its excess, and behind it what was there.

@@ -12,8 +12,9 @@
 mod record;
 mod said;
 
+use lines::input::read_full;
 use lines::request::numbers;
-use record::{BUFFER, Record, read, read_full};
+use record::{BUFFER, Record, read};
 use said::Said;
 use std::io;
 
@@ -29,18 +30,19 @@ fn answer(rt: &impl Print, record: Record<'_>, out: &mut [u8]) -> io::Result<()>
     println!(rt; "{said} {}", applied.checked)
 }
 
-fn main(rt: HostRuntime) -> io::Result<()> {
+fn main(rt: HostRuntime) {
     let mut input = rt.reader();
     // Arrays: a record and a text have at most these sizes.
     let mut buffer = [0; BUFFER];
     let mut out = [0; ROOM];
-    read_full(&mut input, &mut buffer[..8])?;
+    read_full(&mut input, &mut buffer[..8]);
     let [count] = numbers::<1>(&buffer);
+    // What cannot be written of a line is left out, and the next one is tried.
     for _ in 0..count {
-        if !read(&mut input, &mut buffer)? {
-            return println!(rt; "record cut off");
+        if !read(&mut input, &mut buffer) {
+            let _ = println!(rt; "record cut off");
+            return;
         }
-        answer(&rt, Record::new(&buffer), &mut out)?;
+        let _ = answer(&rt, Record::new(&buffer), &mut out);
     }
-    Ok(())
 }

@@ -1,8 +1,9 @@
 // A record of the input, read into the buffer and taken from it.
+use lines::input::read_full;
 use lines::parts::{part, room};
 use lines::request::{Request, numbers};
 use lines::value::Kind;
-use std::io::{self, Read};
+use std::io::Read;
 
 // Room for a record.
 pub const BUFFER: usize = 65536;
@@ -51,24 +52,11 @@ impl<'a> Record<'a> {
     }
 }
 
-// Reads until the buffer is full or the input ends, and answers how many bytes there were. By hand, since read_exact does not tell how many.
-pub fn read_full(input: &mut impl Read, buffer: &mut [u8]) -> io::Result<usize> {
-    let mut count = 0;
-    while count < buffer.len() {
-        let more = input.read(&mut buffer[count..])?;
-        if more == 0 {
-            break;
-        }
-        count += more;
-    }
-    Ok(count)
-}
-
 // Reads a record to the start of the buffer: its numbers, and what they say is behind them, for which all of the buffer is read where it has no such part.
 // Answers whether the record was there, whole.
-pub fn read(input: &mut impl Read, buffer: &mut [u8; BUFFER]) -> io::Result<bool> {
-    let head = read_full(input, &mut buffer[..Head::SIZE])?;
+pub fn read(input: &mut impl Read, buffer: &mut [u8; BUFFER]) -> bool {
+    let head = read_full(input, &mut buffer[..Head::SIZE]);
     let end = Head::new(buffer).image_end;
-    let rest = read_full(input, room(buffer, Head::SIZE, end))?;
-    Ok(head.wrapping_add(rest) == end)
+    let rest = read_full(input, room(buffer, Head::SIZE, end));
+    head.wrapping_add(rest) == end
 }

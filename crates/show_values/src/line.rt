@@ -12,26 +12,23 @@ use lines::request::Request;
 use rules::number::Value;
 use std::io;
 
-// The name and the unit of a conversion, where it has them.
+// The links to a conversion's name and unit. Their texts are looked for where they are written, and not before: a text may be long, and an answer that is
+// no number has no unit.
 #[derive(Clone, Copy)]
 struct Labels<'a> {
-    name: Option<&'a [u8]>,
-    unit: Option<&'a [u8]>,
+    image: &'a [u8],
+    name: u64,
+    unit: u64,
 }
 
 impl<'a> Labels<'a> {
-    // None where no whole conversion stands.
+    // NIL where no whole conversion stands.
     fn new(image: &'a [u8], address: u64) -> Self {
-        match Block::parse(image, address) {
-            Ok(block) => Self {
-                name: text_at(image, block.name),
-                unit: text_at(image, block.unit),
-            },
-            Err(_) => Self {
-                name: None,
-                unit: None,
-            },
-        }
+        let (name, unit) = match Block::parse(image, address) {
+            Ok(block) => (block.name, block.unit),
+            Err(_) => (0, 0),
+        };
+        Self { image, name, unit }
     }
 }
 
@@ -42,7 +39,7 @@ fn text_at(image: &[u8], link: u64) -> Option<&[u8]> {
 
 // A conversion without a name has its address.
 fn title(rt: &impl Print, labels: Labels<'_>, address: u64) -> io::Result<()> {
-    match labels.name {
+    match text_at(labels.image, labels.name) {
         Some(name) => rt.write_all(name)?,
         None => print!(rt; "Address {address}")?,
     }
@@ -51,7 +48,7 @@ fn title(rt: &impl Print, labels: Labels<'_>, address: u64) -> io::Result<()> {
 
 // The unit behind some words, where there is one.
 fn in_unit(rt: &impl Print, words: &str, labels: Labels<'_>) -> io::Result<()> {
-    let Some(unit) = labels.unit else {
+    let Some(unit) = text_at(labels.image, labels.unit) else {
         return Ok(());
     };
     print!(rt; "{words}")?;

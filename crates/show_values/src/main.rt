@@ -15,7 +15,8 @@ mod line;
 mod said;
 
 use asked::Asked;
-use std::io::{self, Read};
+use lines::input::read_full;
+use std::io;
 
 // The most bytes of the input, and one more.
 const INPUT: usize = 65536;
@@ -29,17 +30,23 @@ fn cut(input: &[u8]) -> Option<(&[[u8; Asked::SIZE]], &[u8])> {
     Some((requests, image))
 }
 
-fn main(rt: HostRuntime) -> io::Result<()> {
-    let mut input = Vec::new(rt.alloc());
-    rt.reader().take(INPUT as u64).read_to_end(&mut input)?;
+// What cannot be written of a line is left out, and the next one is tried.
+fn list(rt: &impl Print, input: &[u8]) -> io::Result<()> {
     if input.len() == INPUT {
         return println!(rt; "bad input: more than 65535 bytes");
     }
-    let Some((requests, image)) = cut(input.as_slice()) else {
+    let Some((requests, image)) = cut(input) else {
         return println!(rt; "bad input: fewer bytes than the requests take");
     };
     for request in requests {
-        line::write(&rt, image, Asked::new(request))?;
+        let _ = line::write(rt, image, Asked::new(request));
     }
     Ok(())
+}
+
+fn main(rt: HostRuntime) {
+    // An array: no input needs more, and no memory is asked for.
+    let mut buffer = [0; INPUT];
+    let count = read_full(&mut rt.reader(), &mut buffer);
+    let _ = list(&rt, &buffer[..count]);
 }
