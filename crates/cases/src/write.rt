@@ -29,8 +29,8 @@ fn record(letter: u8, bytes: &[u8]) -> Block {
     block
 }
 
-// The most values that a command writes, one too many for a block: the first is the word at 176, and all others the word at 184. They stand in an array:
-// memory that is taken and given back for each command took most of the time.
+// The most values that a command writes, one too many for a block: the first is the word at 176, and all others the word at 184. They stand in an
+// array: memory that is taken and given back for each command took most of the time.
 const MOST: usize = 65536;
 
 // The values as floats.

@@ -1,8 +1,9 @@
 // f64 and its 64 bits, both ways and for every pattern; whole numbers rounded to f64, by its bits and with no float operation.
 // Carries over the integer half of `extract_numeric` in linear.rs and the crate's uses of `f64::from_bits` and `to_bits`.
 //
-// The language has one NaN and leaves its own `from_bits` and `to_bits` undefined there, so both functions here test for it first. These tests stand here and are not left to std's functions: what a NaN is read as and written as is a number of this code. The bits that
-// `from_u64` and `from_i64` put together are no NaN's, and are read without a test.
+// The language has one NaN and leaves its own `from_bits` and `to_bits` undefined there, so both functions here test for it first. The tests are not left
+// to std's functions: what a NaN is read as and written as is a number of this code. The bits that `from_u64` and `from_i64` put together are no NaN's,
+// and are read without a test.
 
 #![tactic(auto)]
 
@@ -101,7 +102,7 @@ pub fn from_i64(n: i64) -> f64
 }
 
 // The 64 bits of a signed number, in two's complement.
-#[tactic(auto, using(crate::proofs::Signed::bits_as_read))]
+#[tactic(auto, using(crate::proofs::Signed::bits_as_read), unfolding(crate::specs::Twos::twos))]
 pub fn bits_of_i64(n: i64) -> u64
     ensures { result ≡ twos n }
 {

@@ -1,5 +1,5 @@
-// What the programs read and write alike: input, parts of slices, the numbers and texts of commands, memory built from them, values and what a call is asked,
-// refusals, and floats in decimal.
+// What the programs read and write alike: input, parts of slices, the numbers and texts of commands, memory built from them, values and what a call is
+// asked, refusals, and floats in decimal.
 
 #![tactic(auto)]
 

@@ -28,8 +28,8 @@ const NUMBERS: usize = 256;
 // The texts of a chunk.
 const CHUNK: usize = 255;
 
-// What is kept of a text of a chunk beside how much it has in common with the text of a number below its own: that number, and the byte of its own behind
-// what they have in common.
+// What is kept of a text of a chunk, beside how much it has in common with the text of a number below its own: that number, and the byte of its own
+// behind what they have in common.
 #[derive(Clone, Copy)]
 struct Row {
     below: u8,
@@ -213,8 +213,8 @@ impl Chunk<'_> {
         stop
     }
 
-    // The hashes of the chunk's texts, from 0 on, so that the machine can compare several at a time: the first is that of number 1. They stand beside the
-    // chunk, and only once it is known that its own texts differ: a chunk that has a repeat costs no text more than what others have in common with it.
+    // The hashes of the chunk's texts, from 0 on, so that the machine can compare several at a time: the first is that of number 1. They are taken once it
+    // is known that the chunk's own texts differ: where one comes again, no text is read for a hash.
     fn hash_all(&self, hashes: &mut [u32; NUMBERS])
         ensures { Hashed self.now.image.now self.now.b self.now.start (self.now.count - 1) hashes.new }
     {
@@ -258,8 +258,8 @@ fn repeat_of(image: &[u8], b: View, start: usize, bound: usize) -> usize
     requires { (start ≤ bound) × (bound ≤ 65535) }
     ensures { FirstRepeat image.now b start (start + 255) bound result }
 {
-    // Filled, here and below, with numbers that are known only at run time: with a constant, or with a byte, the compiler would call the C library's memset,
-    // and the archive calls no library.
+    // Filled, here and below, with numbers that are known only at run time: with a constant, or with a byte, the compiler would call the C library's
+    // memset, and the archive calls no library.
     let row = Row {
         below: (start % 256) as u8,
         mark: 0,

@@ -12,8 +12,8 @@ use lines::request::Request;
 use rules::number::Value;
 use std::io;
 
-// The links to a conversion's name and unit. Their texts are looked for where they are written, and not before: a text may be long, and an answer that is
-// no number has no unit.
+// The links to a conversion's name and unit. Their texts are looked for where they are written, and not before: a text may be long, and an answer that
+// is no number has no unit.
 #[derive(Clone, Copy)]
 struct Labels<'a> {
     image: &'a [u8],
